@@ -1,0 +1,25 @@
+-- What each way through a test of two halves says of the whole: x is what the code's first test answered, y its second. Assumes nothing.
+use mathlib.Core.Path.{_≡_, refl, sym}
+use mathlib.Core.Bool.{Bool, true, false, _&&_, _||_, true≢false}
+
+module _ (x p : Bool) (e : x ≡ p) where
+  pub or-holds : (q : Bool) → x ≡ true → x ≡ (p || q)
+  or-holds q h = rw (← e, h)
+
+  pub or-goes-on : (y q : Bool) → x ≡ false → y ≡ q → y ≡ (p || q)
+  or-goes-on y q h f = rw (← e, h) f
+
+  pub and-fails : (q : Bool) → x ≡ false → false ≡ (p && q)
+  and-fails q h = rw (← e, h)
+
+  pub and-goes-on : (y q : Bool) → x ≡ true → y ≡ q → y ≡ (p && q)
+  and-goes-on y q h f = rw (← e, h) f
+
+-- both halves of a test that passed
+pub and-first : (a b : Bool) → (a && b) ≡ true → a ≡ true
+and-first true b e = refl
+and-first false b e = e
+
+pub and-second : (a b : Bool) → (a && b) ≡ true → b ≡ true
+and-second true b e = e
+and-second false b e = absurd (true≢false (sym e))

@@ -1,0 +1,114 @@
+-- `text::is_one` meets its contract, an arm for each kind of texts. Assumes nothing.
+use Prim.Native.Nat.{ℕ}
+use Rattle.text.specs.Texts.{allows}
+use borrow.Author.Needs.{needs}
+use mathlib.Core.List.{List}
+use mathlib.Core.Path.{_∙_, _≡_, ap, sym}
+use Rattle.text.specs.declared.Texts.{Texts}
+use Rattle.text.proofs.is_one.Statement.{statement}
+use Rattle.text.proofs.is_one.Tie as tie
+
+-- the texts that an arm was taken at
+at-texts : {s s′ : Texts} (t : List ℕ) → s ≡ s′ → allows s′ t ≡ allows s t
+at-texts t e = sym (ap (λ (q : Texts). allows q t) e)
+
+enum-told : tie.Need-enum-told
+enum-told c = search needs
+
+enum-told-2 : tie.Need-enum-told-2
+enum-told-2 c = search needs
+
+all-between-requires : tie.Need-all-between-requires
+all-between-requires c κs = search needs
+
+enum-told-3 : tie.Need-enum-told-3
+enum-told-3 c = search needs
+
+all-between-requires-2 : tie.Need-all-between-requires-2
+all-between-requires-2 c κs = search needs
+
+enum-told-4 : tie.Need-enum-told-4
+enum-told-4 c = search needs
+
+is-call-sign-requires : tie.Need-is-call-sign-requires
+is-call-sign-requires c κs = search needs
+
+enum-known-texts : tie.Need-enum-known-texts
+enum-known-texts c = search needs
+
+is-digit-or-requires : tie.Need-is-digit-or-requires
+is-digit-or-requires c κs = search needs
+
+enum-known-texts-2 : tie.Need-enum-known-texts-2
+enum-known-texts-2 c = search needs
+
+is-within-requires : tie.Need-is-within-requires
+is-within-requires c κs = search needs
+
+enum-known-texts-3 : tie.Need-enum-known-texts-3
+enum-known-texts-3 c = search needs
+
+is-in-either-requires : tie.Need-is-in-either-requires
+is-in-either-requires c κs = search needs
+
+enum-known-texts-4 : tie.Need-enum-known-texts-4
+enum-known-texts-4 c = search needs
+
+is-one-of-requires : tie.Need-is-one-of-requires
+is-one-of-requires c κs = search needs
+
+returns : tie.Need-returns
+unfolding allows
+returns c = at-texts _ (c .enum-told .given .1)
+
+returns-2 : tie.Need-returns-2
+unfolding allows
+returns-2 c = c .all-between .ensures ∙ at-texts _ (c .before .enum-told2 .given .1)
+
+returns-3 : tie.Need-returns-3
+unfolding allows
+returns-3 c = c .all-between2 .ensures ∙ at-texts _ (c .before .enum-told3 .given .1)
+
+returns-4 : tie.Need-returns-4
+unfolding allows
+returns-4 c = c .is-call-sign .ensures ∙ at-texts _ (c .before .enum-told4 .given .1)
+
+returns-5 : tie.Need-returns-5
+returns-5 c = c .is-digit-or .ensures ∙ at-texts _ (c .before .before .texts .given .1)
+
+returns-6 : tie.Need-returns-6
+returns-6 c = c .is-within .ensures ∙ at-texts _ (c .before .before .texts2 .given .1)
+
+returns-7 : tie.Need-returns-7
+returns-7 c = c .is-in-either .ensures ∙ at-texts _ (c .before .before .texts3 .given .1)
+
+returns-8 : tie.Need-returns-8
+returns-8 c = c .is-one-of .ensures ∙ at-texts _ (c .before .before .texts4 .given .1)
+
+pub is-one-spec : {M : Type 1} → statement M
+is-one-spec =
+    tie.close
+    (tie.spec
+    enum-told
+    enum-told-2
+    all-between-requires
+    enum-told-3
+    all-between-requires-2
+    enum-told-4
+    is-call-sign-requires
+    enum-known-texts
+    is-digit-or-requires
+    enum-known-texts-2
+    is-within-requires
+    enum-known-texts-3
+    is-in-either-requires
+    enum-known-texts-4
+    is-one-of-requires
+    returns
+    returns-2
+    returns-3
+    returns-4
+    returns-5
+    returns-6
+    returns-7
+    returns-8)

@@ -1,0 +1,36 @@
+-- Which texts a legal form allows. Assumes nothing.
+use Prim.Native.Nat.{ℕ}
+use mathlib.Core.List.{List}
+use mathlib.Core.Bool.{Bool, false, _&&_, _||_}
+use lib.Dec.{eqb, leb}
+use lib.ListN.{drop}
+use Rattle.text.specs.Bytes.{every, between, either, printable, isDigit, isLetter, blank, digits, number, run}
+use Rattle.text.specs.declared.Texts.{Texts}
+use Rattle.text.specs.declared.Texts.the-variants.{Nothing, Printable, Letters, CallSign, DigitOr, Within, Either, OneOf}
+
+-- a number that is one of four
+abbrev pub among : ℕ → ℕ → ℕ → ℕ → ℕ → Bool
+among a b c d n = eqb n a || eqb n b || eqb n c || eqb n d
+
+-- a character of a call sign: 0..9, A..Z
+abbrev pub isSign : ℕ → Bool
+isSign b = isDigit b || isLetter b
+
+-- a digit, or the byte x in its place
+abbrev pub digitOr : ℕ → ℕ → Bool
+digitOr x b = isDigit b || between x x b
+
+-- three or more characters of a call sign, left, and blanks only after them
+abbrev pub callSign : List ℕ → Bool
+callSign t = leb 3 (run isSign t) && blank (drop (run isSign t) t)
+
+-- the text t is one of these texts
+unfoldable pub allows : Texts → List ℕ → Bool
+allows Nothing t = false
+allows Printable t = every printable t
+allows Letters t = every isLetter t
+allows CallSign t = callSign t
+allows (DigitOr x) t = every (digitOr x) t
+allows (Within a b) t = digits t && between a b (number t)
+allows (Either a b c d) t = digits t && either a b c d (number t)
+allows (OneOf a b c d) t = digits t && among a b c d (number t)

@@ -33,6 +33,12 @@ module _ (p : ℕ → Bool) (n : ℕ) where
     unfolding firstFrom
     end h = rw (none-left n k h)
 
+-- tests that answer the same at every place find the same place
+pub same-first : (p q : ℕ → Bool) → ((j : ℕ) → p j ≡ q j) → (k n : ℕ) → firstFrom p k n ≡ firstFrom q k n
+unfolding firstFrom
+same-first p q f k zero = refl
+same-first p q f k (suc n) = rw (f k, same-first p q f (suc k) n)
+
 -- What a look at the n places from k on has shown: the test passes at each, or it fails at q and passes at each that is lower.
 pub data Looked (p : ℕ → Bool) (k n : ℕ) : ℕ → Type 0 where
   nowhere : ((j : ℕ) → k ≤ j → j < k + n → p j ≡ true) → Looked p k n 0

@@ -22,11 +22,11 @@ shared-slice-read-b : tie.Need-shared-slice-read-b Inv-loop μ-loop
 shared-slice-read-b c = search needs
 
 returns : tie.Need-returns Inv-loop μ-loop
-returns c = 
+returns c =
     sym (c .before .before .before .loop .inv .1 ∙ off (between _ _) _ _ (c .before .before .loop-test .taken) (rw (lt-leb _ _ (c .if1 .taken))))
 
 returns-2 : tie.Need-returns-2 Inv-loop μ-loop
-returns-2 c = 
+returns-2 c =
     sym (c .before .before .before .before .loop .inv .1 ∙
     off (between _ _) _ _ (c .before .before .before .loop-test .taken) (rw (le-leb _ _ (c .before .if1 .left), lt-leb _ _ (c .if2 .taken))))
 

@@ -1,0 +1,60 @@
+-- The loop over a record's elements: where it stands, what it takes out, and what its test says of `legal`. Assumes nothing.
+use mathlib.Core.Path.{_≡_, refl, sym, ap, _∙_}
+use mathlib.Core.Bool.{Bool, _&&_, _||_}
+use mathlib.Core.List.{List}
+use Prim.Native.Nat.{ℕ, _+_, _-_, _<_, _≤_, min}
+use native.Mathlib.Nat.{add-sub-cancel-left, min-le-left}
+use native.Mathlib.Omega.{arith}
+use lib.Dec.{lit≤}
+use lib.ListN.{length, getD, take, drop, length-take}
+use Rattle.text.specs.Bytes.{blank}
+use Rattle.text.specs.Texts.{allows}
+use Rattle.text.specs.First.{firstOf, firstFrom}
+use Rattle.text.specs.declared.Texts.{Texts}
+use Rattle.text.proofs.First.{same-first}
+use Rattle.layout.specs.declared.Edition.{Edition}
+use Rattle.layout.specs.declared.Edition.the-variants.{One, Three, Four}
+use Rattle.layout.specs.Editions.{lengthOf, lastOf}
+use Rattle.layout.specs.Letters.{lettered, WidthRow, LetterRow}
+use Rattle.layout.specs.Page.{widthOf, startOf, textOf, mayBeBlank, legal}
+use Rattle.layout.proofs.Columns.{start-next, start-rises, narrow, filled}
+use Rattle.layout.proofs.Rows.{width-at, texts-at}
+
+-- the test of element e by the letters of a row, whichever edition's they are
+unfoldable pub byLetters : List ℕ → List ℕ → ℕ → Bool
+byLetters ls xs e = (mayBeBlank e && blank (textOf e xs)) || allows (lettered (getD ls e 0)) (textOf e xs)
+
+pub last-below : (ed : Edition) → lastOf ed ≤ 101
+last-below One = lit≤ tt
+last-below Three = lit≤ tt
+last-below Four = lit≤ tt
+
+-- the loop stands at element e, whose columns start at `at` and are d
+module _ (ws : List ℕ) (row : WidthRow ws) (at e d : ℕ) (stands : at ≡ startOf e) (wide : d ≡ getD ws e 0 - 48) where
+  width : d ≡ widthOf e
+  width = wide ∙ width-at ws row e
+
+  pub next : at + d ≡ startOf (e + 1)
+  next = rw (stands, width) (sym (start-next e))
+
+  pub within : (ed : Edition) (xs : List ℕ) (last : ℕ) → last ≡ lastOf ed → length xs ≡ lengthOf ed → e ≤ last → at + d ≤ length xs
+  within ed xs last n f h = rw (next, f, ← filled ed) (start-rises (e + 1) (lastOf ed + 1) (omega arith))
+
+  part : (xs : List ℕ) → take (at + d - at) (drop at xs) ≡ textOf e xs
+  unfolding textOf
+  part xs = rw (add-sub-cancel-left at d, stands, width)
+
+  pub small : (xs : List ℕ) → length (take (at + d - at) (drop at xs)) ≤ 7
+  unfolding textOf
+  small xs = rw (part xs, length-take) (omega (arith, min-le-left (widthOf e) (length (drop (startOf e) xs)), narrow e))
+
+  pub tested : (ls xs : List ℕ) (r : Bool) (t : Texts) → t ≡ lettered (getD ls e 0) →
+      r ≡ ((mayBeBlank e && blank (take (at + d - at) (drop at xs))) || allows t (take (at + d - at) (drop at xs))) → r ≡ byLetters ls xs e
+  unfolding byLetters
+  tested ls xs r t f g = g ∙ rw (part xs, f)
+
+-- the letters are an edition's, so what they find is what the page finds
+pub same-place : (ed : Edition) (ls xs : List ℕ) → LetterRow ed ls → (last : ℕ) → last ≡ lastOf ed →
+    firstOf last (byLetters ls xs) ≡ firstOf (lastOf ed) (legal ed xs)
+unfolding byLetters legal
+same-place ed ls xs l last n = same-first (byLetters ls xs) (legal ed xs) (λ e. rw (texts-at ed ls l e)) 1 last ∙ ap (firstFrom (legal ed xs) 1) n

@@ -1,0 +1,4 @@
+-- The laws of the page that the functions of this crate and of those above it cite.
+pub mod Columns
+pub mod Rows
+pub mod Elements

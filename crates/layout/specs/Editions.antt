@@ -1,0 +1,23 @@
+-- The editions: which character in column 111 names each, its length, and its last element. Assumes nothing.
+use Prim.Native.Nat.{ℕ}
+use mathlib.Core.Bool.{cond}
+use lib.Dec.{eqb}
+use Rattle.layout.specs.declared.Edition.{Edition}
+use Rattle.layout.specs.declared.Edition.the-variants.{One, Three, Four}
+use Rattle.layout.specs.declared.Named.{Named}
+use Rattle.layout.specs.declared.Named.the-variants.{Known, Unknown}
+
+-- the edition that a character names: '1', '3', '4', and no other
+abbrev pub editionOf : ℕ → Named
+editionOf b = cond (eqb b 49) (Known One) (cond (eqb b 51) (Known Three) (cond (eqb b 52) (Known Four) Unknown))
+
+-- each edition has a length of its own
+abbrev pub lengthOf : Edition → ℕ
+lengthOf One = 131
+lengthOf Three = 159
+lengthOf Four = 159
+
+abbrev pub lastOf : Edition → ℕ
+lastOf One = 85
+lastOf Three = 101
+lastOf Four = 101

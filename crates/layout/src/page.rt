@@ -1,0 +1,139 @@
+// The layout page, for the check of a record's elements.
+//
+// `page` of specs/Page.antt is the page. Here it stands as four rows of characters, a character an
+// element and the first for none, so that a loop reads a byte for each element and no more: its
+// width, and a letter for its legal texts in each edition.
+use crate::Edition;
+use text::Texts;
+ghost use mathlib.Core.Path.{_≡_};
+ghost use mathlib.Core.Bool.{_&&_, _||_};
+ghost use Prim.Native.Nat.{_≤_, _-_};
+ghost use lib.ListN.{length};
+ghost use Rattle.text.specs.Bytes.{blank};
+ghost use Rattle.text.specs.Texts.{allows};
+ghost use Rattle.text.specs.First.{firstOf};
+ghost use Rattle.layout.specs.Editions.{lengthOf, lastOf};
+ghost use Rattle.layout.specs.Page.{mayBeBlank, legal};
+ghost use Rattle.layout.specs.Letters.{lettered, WidthRow, LetterRow};
+
+// The widths, a digit for each.
+fn widths() -> [u8; 102]
+    ensures { λ r. ⌜ WidthRow r ⌝ }
+{
+    *b"014222134112121213134211111113112222212111721111311313112221111111111111111111111111111332233311111111"
+}
+
+// The letters of an edition.
+fn letters_in(edition: Edition) -> [u8; 102]
+    ensures { λ r. ⌜ LetterRow edition r ⌝ }
+{
+    match edition {
+        Edition::One => {
+            *b"ABCDEFGIJKLMLNOPQRSRTPUULLLLQRVUPPNPPWPXYUaPcZdXeUSRfRLLNPPLLLLLfhkkkkkkkkkkkkkkkkkkkkAAAAAAAAAAAAAAAA"
+        }
+        Edition::Three => {
+            *b"ABCDEFHIJKLMLNOPQRSRTPUULLLLQRVUPPNPPWPXYUabcZdXeUSRfRLLNPPLLLLLfikkkkkkkkkkkkkkkkkkkkWnnPPonRkkkkkkkk"
+        }
+        Edition::Four => {
+            *b"ABCDEFHIJKLMLNOPQRSRTPUULLLLQRVUPPNPPWPXYZabcZdXeUSRfRLLNPPLLLLLgjllllllllllllllllllllmnnPPonRllllllll"
+        }
+    }
+}
+
+// The texts that a letter stands for.
+fn texts_of(letter: u8) -> Texts
+    ensures { λ r. ⌜ r ≡ lettered letter ⌝ }
+{
+    match letter {
+        b'B' => Texts::Within(3, 5),
+        b'C' => Texts::Within(0, 9999),
+        b'D' => Texts::Within(1, 12),
+        b'E' => Texts::Within(1, 31),
+        b'F' => Texts::Within(0, 23),
+        b'G' => Texts::Either(0, 3, 5, 8),
+        b'H' => Texts::OneOf(1, 3, 5, 7),
+        b'I' => Texts::Within(0, 900),
+        b'J' => Texts::Within(0, 1800),
+        b'K' => Texts::Within(0, 3),
+        b'L' => Texts::DigitOr(b'/'),
+        b'M' => Texts::Either(0, 50, 56, 99),
+        b'N' => Texts::Either(0, 36, 99, 99),
+        b'O' => Texts::OneOf(0, 1, 3, 4),
+        b'P' => Texts::Within(0, 99),
+        b'Q' => Texts::Within(0, 1),
+        b'R' => Texts::Within(0, 999),
+        b'S' => Texts::Either(0, 2, 5, 7),
+        b'T' => Texts::Either(0, 999, 8000, 9999),
+        b'U' => Texts::Within(0, 9),
+        b'V' => Texts::Within(0, 7),
+        b'W' => Texts::Within(1, 5),
+        b'X' => Texts::Within(0, 4),
+        b'Y' => Texts::Within(0, 6),
+        b'Z' => Texts::Either(0, 6, 9, 9),
+        b'a' => Texts::CallSign,
+        b'b' => Texts::Letters,
+        b'c' => Texts::Printable,
+        b'd' => Texts::OneOf(1, 4, 7, 7),
+        b'e' => Texts::Within(1, 999),
+        b'f' => Texts::Within(0, 8),
+        b'g' => Texts::DigitOr(b'A'),
+        b'h' => Texts::Within(1, 1),
+        b'i' => Texts::Within(3, 3),
+        b'j' => Texts::Within(4, 4),
+        b'k' => Texts::Either(0, 5, 9, 9),
+        b'l' => Texts::Either(0, 7, 9, 9),
+        b'm' => Texts::Within(1, 6),
+        b'n' => Texts::Within(0, 360),
+        b'o' => Texts::Either(0, 99, 101, 199),
+        _ => Texts::Nothing,
+    }
+}
+
+// The number that a digit says.
+fn digit(b: u8) -> usize
+    ensures { λ r. ⌜ r ≡ b - 48 ⌝ }
+{
+    if b < 48 { 0 } else { (b - 48) as usize }
+}
+
+// Is the text of element e blank, where it may be?
+fn is_missing(e: usize, text: &[u8]) -> bool
+    ensures { λ r. ⌜ r ≡ (mayBeBlank e && blank (now (text .entry))) ⌝ }
+{
+    if e == 1 {
+        return false;
+    }
+    if e == 65 {
+        return false;
+    }
+    text::is_blank(text)
+}
+
+// Is it that, or one of the element's texts?
+fn is_legal(e: usize, texts: Texts, text: &[u8]) -> bool
+    requires { ⌜ length (now text) ≤ 7 ⌝ }
+    ensures { λ r. ⌜ r ≡ ((mayBeBlank e && blank (now (text .entry))) || allows texts (now (text .entry))) ⌝ }
+{
+    is_missing(e, text) || text::is_one(texts, text)
+}
+
+// The lowest element that is neither blank nor legal, or 0.
+pub fn first_illegal(edition: Edition, line: &[u8]) -> usize
+    requires { ⌜ length (now line) ≡ lengthOf edition ⌝ }
+    ensures { λ r. ⌜ r ≡ firstOf (lastOf edition) (legal edition (now (line .entry))) ⌝ }
+{
+    let widths = widths();
+    let letters = letters_in(edition);
+    let last = edition.last();
+    let mut at = 0;
+    let mut e = 1;
+    while e <= last {
+        let end = at + digit(widths[e]);
+        if !is_legal(e, texts_of(letters[e]), &line[at..end]) {
+            return e;
+        }
+        at = end;
+        e += 1;
+    }
+    0
+}

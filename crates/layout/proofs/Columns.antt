@@ -28,13 +28,16 @@ pub start-next : (e : ℕ) → startOf (e + 1) ≡ startOf e + widthOf e
 unfolding startOf element
 start-next e = rw add-one (next elements e)
 
+le-add-right-of : {a b : ℕ} (c : ℕ) → a ≤ b → a ≤ b + c
+le-add-right-of c h = omega arith
+
 -- the columns before an element are no more than those before a later one
 pub start-rises : (e n : ℕ) → e ≤ n → startOf e ≤ startOf n
 start-rises e zero h = ⊎-elim (λ q. rw q (le-refl (startOf 0))) (λ l. absurd (not-suc-le-zero l)) (eq-or-lt-of-le h)
 start-rises e (suc n) h =
     ⊎-elim
     (λ q. rw q (le-refl (startOf (suc n))))
-    (λ l. rw (← add-one n, start-next n) (omega (arith, start-rises e n (le-of-suc-le-suc l))))
+    (λ l. rw (← add-one n, start-next n) (le-add-right-of (widthOf n) (start-rises e n (le-of-suc-le-suc l))))
     (eq-or-lt-of-le h)
 
 -- the widths fill each edition exactly

@@ -2,3 +2,4 @@
 pub mod Columns
 pub mod Rows
 pub mod Elements
+pub mod TieLaws

@@ -1,4 +1,5 @@
 pub mod Editions
 pub mod Page
 pub mod Letters
+pub mod Ties
 pub mod Refusals

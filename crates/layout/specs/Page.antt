@@ -5,7 +5,7 @@ use mathlib.Core.List.{List, [], _∷_}
 use mathlib.Core.Bool.{Bool, not, _&&_, _||_}
 use lib.Dec.{eqb}
 use lib.ListN.{getD, take, drop}
-use Rattle.text.specs.Bytes.{blank, number}
+use Rattle.text.specs.Bytes.{blank}
 use Rattle.text.specs.Texts.{allows}
 use Rattle.text.specs.declared.Texts.{Texts}
 use Rattle.text.specs.declared.Texts.the-variants.{Nothing, Printable, Letters, CallSign, DigitOr, Within, Either, OneOf}
@@ -165,16 +165,9 @@ columns (e ∷ es) = e .width + columns es
 unfoldable pub startOf : ℕ → ℕ
 startOf e = columns (take e elements)
 
--- the characters of element e in a record, and the number that they say where they are digits
+-- the characters of element e in a record
 unfoldable pub textOf : ℕ → List ℕ → List ℕ
 textOf e xs = take (widthOf e) (drop (startOf e) xs)
-
-abbrev pub valueOf : ℕ → List ℕ → ℕ
-valueOf e xs = number (textOf e xs)
-
--- something is written in element e
-abbrev pub there : ℕ → List ℕ → Bool
-there e xs = not (blank (textOf e xs))
 
 abbrev pub textsIn : Edition → Element → Texts
 textsIn One e = e .in1

@@ -3,6 +3,7 @@
 //
 // The definitions of specs/ are the document; the functions here are what they compute.
 pub mod page;
+pub mod ties;
 
 ghost use mathlib.Core.Path.{_≡_};
 ghost use Rattle.layout.specs.Editions.{editionOf, lengthOf, lastOf};

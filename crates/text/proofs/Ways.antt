@@ -12,6 +12,9 @@ module _ (x p : Bool) (e : x ≡ p) where
   pub and-fails : (q : Bool) → x ≡ false → false ≡ (p && q)
   and-fails q h = rw (← e, h)
 
+  pub and-stops : (q : Bool) → x ≡ false → x ≡ (p && q)
+  and-stops q h = rw (← e, h)
+
   pub and-goes-on : (y q : Bool) → x ≡ true → y ≡ q → y ≡ (p && q)
   and-goes-on y q h f = rw (← e, h) f
 

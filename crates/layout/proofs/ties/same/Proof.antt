@@ -1,0 +1,14 @@
+-- `layout::ties::same` meets its contract. Assumes nothing.
+use Rattle.layout.proofs.TieLaws.{same-true}
+use borrow.Author.Needs.{needs}
+use Rattle.layout.proofs.ties.same.Statement.{statement}
+use Rattle.layout.proofs.ties.same.Tie as tie
+
+returns : tie.Need-returns
+returns c = same-true _ _ (c .if1 .taken)
+
+returns-2 : tie.Need-returns-2
+returns-2 c = search needs
+
+pub same-spec : {M : Type 1} → statement M
+same-spec = tie.close (tie.spec returns returns-2)

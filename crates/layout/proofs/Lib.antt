@@ -3,3 +3,5 @@ pub mod Columns
 pub mod Rows
 pub mod Elements
 pub mod TieLaws
+pub mod Beyond
+pub mod RefusalLaws

@@ -14,14 +14,15 @@ use Rattle.text.proofs.Ways.{and-stops, and-goes-on}
 use Rattle.layout.specs.Ties.{there, placeTie, octantFits, negative, signTie, lastDigit, digitTie, ties, tie}
 use Rattle.layout.specs.declared.Edition.{Edition}
 
-none : (n : ℕ) → _≡_ {A = List ℕ} [] (take n [])
-none zero = refl
-none (suc n) = refl
+-- there is nothing to take of nothing
+pub take-none : (n : ℕ) → _≡_ {A = List ℕ} [] (take n [])
+take-none zero = refl
+take-none (suc n) = refl
 
 -- the columns of a record: past its end, up to its end, and within it
 module _ (xs : List ℕ) (start width : ℕ) where
   pub past : length xs ≤ start → [] ≡ take width (drop start xs)
-  past h = rw (drop-of-length-le xs h) (none width)
+  past h = rw (drop-of-length-le xs h) (take-none width)
 
   pub to-the-end : length xs - start ≤ width → take (length xs - start) (drop start xs) ≡ take width (drop start xs)
   to-the-end h = take-all (length xs - start) (drop start xs) (rw length-drop (omega arith)) ∙ sym (take-all width (drop start xs) (rw length-drop h))

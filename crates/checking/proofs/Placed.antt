@@ -1,0 +1,46 @@
+-- The byte in a column, as the code reads it. Assumes nothing.
+use mathlib.Core.Path.{_≡_, refl, sym, ap, _∙_}
+use mathlib.Core.Bool.{true, false}
+use mathlib.Core.List.{List, [], _∷_}
+use Prim.Native.Nat.{ℕ, zero, suc, _+_, _-_, _<_, _≤_}
+use native.Mathlib.Nat.{le-of-suc-le-suc, not-suc-le-zero}
+use native.Mathlib.Omega.{arith}
+use borrow.Author.Tests.{le-leb, lt-leb}
+use lib.Dec.{leb}
+use lib.ListN.{length, getD, List·getD-eq-default}
+use Rattle.checking.specs.Check.{column, printableAt}
+
+-- what stands at a place within a list is the same whatever stands past its end
+within : (l : List ℕ) (i d e : ℕ) → i < length l → getD l i d ≡ getD l i e
+within [] i d e h = absurd (not-suc-le-zero h)
+within (x ∷ l) zero d e h = refl
+within (x ∷ l) (suc i) d e h = within l i d e (le-of-suc-le-suc h)
+
+index : (c : ℕ) → suc c - 1 ≡ c
+index c = omega arith
+
+pub column-at : (xs : List ℕ) (c : ℕ) → 1 ≤ c → c ≤ length xs → column c xs ≡ getD xs (c - 1) 0
+unfolding column
+column-at xs zero h l = absurd (not-suc-le-zero h)
+column-at xs (suc c) h l = within xs c 32 0 l ∙ ap (λ (i : ℕ). getD xs i 0) (sym (index c))
+
+-- a column past the end is blank, and so is the column before the first
+pub column-none : (xs : List ℕ) (c : ℕ) → length xs < c → column c xs ≡ 32
+unfolding column
+column-none xs zero h = absurd (not-suc-le-zero h)
+column-none xs (suc c) h = List·getD-eq-default xs 32 (le-of-suc-le-suc h)
+
+pub blank-zero : (xs : List ℕ) → printableAt xs 0 ≡ true
+unfolding column
+blank-zero xs = refl
+
+-- a byte that is printable, too low, or too high
+module _ (xs : List ℕ) (c : ℕ) (h : 1 ≤ c) (l : c ≤ length xs) where
+  pub too-low : getD xs (c - 1) 0 < 32 → printableAt xs c ≡ false
+  too-low a = rw (column-at xs c h l, lt-leb _ _ a)
+
+  pub too-high : 32 ≤ getD xs (c - 1) 0 → 126 < getD xs (c - 1) 0 → printableAt xs c ≡ false
+  too-high a b = rw (column-at xs c h l, le-leb _ _ a, lt-leb _ _ b)
+
+  pub prints : 32 ≤ getD xs (c - 1) 0 → getD xs (c - 1) 0 ≤ 126 → printableAt xs c ≡ true
+  prints a b = rw (column-at xs c h l, le-leb _ _ a, le-leb _ _ b)

@@ -1,0 +1,57 @@
+-- `checking::show_call_sign` meets its contract. Assumes nothing.
+use Rattle.checking.proofs.SignLaws.{front-length, hidden, long, shown}
+use Rattle.checking.specs.Check.{callSignOf}
+use borrow.Author.Needs.{needs}
+use native.Mathlib.Omega.{arith}
+use Rattle.checking.proofs.show_call_sign.Statement.{statement}
+use Rattle.checking.proofs.show_call_sign.Tie as tie
+
+check-requires : tie.Need-check-requires
+check-requires c κs = search needs
+
+enum-told : tie.Need-enum-told
+enum-told c = search needs
+
+sub-part : tie.Need-sub-part
+sub-part c = search needs
+
+part-part-start : tie.Need-part-part-start
+part-part-start c = search needs
+
+part-part-end : tie.Need-part-part-end
+part-part-end c = omega (arith, long (c .before .before .before .before .args .line .now) _ _ (c .before .before .check .ensures) (c .enum-told .given .1))
+
+filled-requires : tie.Need-filled-requires
+filled-requires c κs = search needs
+
+slice-aggregate-result : tie.Need-slice-aggregate-result
+slice-aggregate-result c = front-length _ _ (c .before .filled .ensures .0)
+
+enum-told-2 : tie.Need-enum-told-2
+enum-told-2 c = search needs
+
+slice-aggregate-result-2 : tie.Need-slice-aggregate-result-2
+slice-aggregate-result-2 c = search needs
+
+returns : tie.Need-returns
+returns c = shown _ _ _ (c .before .filled .result) (c .before .before .before .before .before .check .ensures) (c .before .before .before .enum-told .given .1) (c .before .filled .ensures .1)
+
+returns-2 : tie.Need-returns-2
+unfolding callSignOf
+returns-2 c = hidden _ _ _ (c .before .before .before .check .ensures) (c .before .enum-told2 .given .1)
+
+pub show-call-sign-spec : {M : Type 1} → statement M
+show-call-sign-spec =
+    tie.close
+    (tie.spec
+    check-requires
+    enum-told
+    sub-part
+    part-part-start
+    part-part-end
+    filled-requires
+    slice-aggregate-result
+    enum-told-2
+    slice-aggregate-result-2
+    returns
+    returns-2)

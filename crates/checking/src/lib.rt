@@ -1,0 +1,123 @@
+// Checking a record, and showing its call sign.
+//
+// A call takes every byte string and comes back: the record is only read, and whatever is wrong with
+// it is the answer. `checked` of specs/Check.antt says which answer.
+use layout::Edition;
+use layout::Named;
+use layout::Refusal;
+ghost use mathlib.Core.Path.{_≡_};
+ghost use lib.ListN.{length};
+ghost use Rattle.text.specs.First.{firstOf};
+ghost use Rattle.checking.specs.Check.{knownLength, printableAt, knownFormat, checkedIn, checked, answerNumber, answerPlace, callSignOf};
+
+// What checking a record answers.
+pub enum Answer {
+    // it has the columns, codes and ties of its edition
+    Accepted(Edition),
+    Refused(Refusal),
+}
+
+impl Answer {
+    // The number of the refusal, 0 where there is none.
+    pub fn number(self) -> u64
+        ensures { λ r. ⌜ r ≡ answerNumber self ⌝ }
+    {
+        match self {
+            Answer::Accepted(_) => 0,
+            Answer::Refused(refusal) => refusal.number(),
+        }
+    }
+
+    // The place that goes with it.
+    pub fn place(self) -> u64
+        ensures { λ r. ⌜ r ≡ answerPlace self ⌝ }
+    {
+        match self {
+            Answer::Accepted(_) => 0,
+            Answer::Refused(refusal) => refusal.place(),
+        }
+    }
+}
+
+fn is_known_length(n: usize) -> bool
+    ensures { λ r. ⌜ r ≡ knownLength n ⌝ }
+{
+    n == 131 || n == 159
+}
+
+fn is_known_format(b: u8) -> bool
+    ensures { λ r. ⌜ r ≡ knownFormat b ⌝ }
+{
+    51 <= b && b <= 53
+}
+
+// The lowest column that holds no printable character, or 0.
+fn first_unprintable(line: &[u8]) -> usize
+    ensures { λ r. ⌜ r ≡ firstOf (length (now (line .entry))) (printableAt (now (line .entry))) ⌝ }
+{
+    let mut c = 1;
+    while c <= line.len() {
+        let b = line[c - 1];
+        if b < 32 {
+            return c;
+        }
+        if 126 < b {
+            return c;
+        }
+        c += 1;
+    }
+    0
+}
+
+// Rules 5, 6 and 7, which go by the edition.
+fn check_in(edition: Edition, line: &[u8]) -> Answer
+    ensures { λ r. ⌜ r ≡ checkedIn (Named.Known edition) (now (line .entry)) ⌝ }
+{
+    if line.len() != edition.length() {
+        return Answer::Refused(Refusal::EditionLength);
+    }
+    let e = layout::page::first_illegal(edition, line);
+    if e != 0 {
+        return Answer::Refused(Refusal::Illegal(e));
+    }
+    let k = layout::ties::first_broken(edition, line);
+    if k != 0 {
+        return Answer::Refused(Refusal::Broken(k));
+    }
+    Answer::Accepted(edition)
+}
+
+// Checks a record: accepted, or the first rule that it breaks.
+pub fn check(line: &[u8]) -> Answer
+    ensures { λ r. ⌜ r ≡ checked (now (line .entry)) ⌝ }
+{
+    if !is_known_length(line.len()) {
+        return Answer::Refused(Refusal::Length);
+    }
+    let c = first_unprintable(line);
+    if c != 0 {
+        return Answer::Refused(Refusal::Unprintable(c));
+    }
+    if !is_known_format(line[0]) {
+        return Answer::Refused(Refusal::Format);
+    }
+    match Edition::of_digit(line[110]) {
+        Named::Known(edition) => check_in(edition, line),
+        Named::Unknown => Answer::Refused(Refusal::Version),
+    }
+}
+
+// The call sign, as the part of the caller's own record that holds it: from column 72 to its last
+// non-blank. Empty where it is missing, and where the record is refused.
+pub fn show_call_sign(line: &[u8]) -> &[u8]
+    ensures { λ r. ⌜ now r ≡ callSignOf (checked (now (line .entry))) (now (line .entry)) ⌝ }
+{
+    match check(line) {
+        Answer::Accepted(_) => {
+            let part = &line[71..78];
+            let n = text::filled(part);
+            &part[..n]
+        }
+        Answer::Refused(_) => &line[..0],
+    }
+}

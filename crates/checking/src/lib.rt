@@ -55,6 +55,9 @@ fn is_known_format(b: u8) -> bool
 fn first_unprintable(line: &[u8]) -> usize
     ensures { λ r. ⌜ r ≡ firstOf (length (now (line .entry))) (printableAt (now (line .entry))) ⌝ }
 {
+    if text::unprintable(line) == 0 {
+        return 0;
+    }
     let mut c = 1;
     while c <= line.len() {
         let b = line[c - 1];

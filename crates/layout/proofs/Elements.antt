@@ -10,7 +10,6 @@ use lib.ListN.{length, getD, take, drop, length-take}
 use Rattle.text.specs.Bytes.{blank}
 use Rattle.text.specs.Texts.{allows}
 use Rattle.text.specs.First.{firstOf, firstFrom}
-use Rattle.text.specs.declared.Texts.{Texts}
 use Rattle.text.proofs.First.{same-first}
 use Rattle.layout.specs.declared.Edition.{Edition}
 use Rattle.layout.specs.declared.Edition.the-variants.{One, Three, Four}
@@ -48,10 +47,10 @@ module _ (ws : List ℕ) (row : WidthRow ws) (at e d : ℕ) (stands : at ≡ sta
   unfolding textOf
   small xs = rw (part xs, length-take) (omega (arith, min-le-left (widthOf e) (length (drop (startOf e) xs)), narrow e))
 
-  pub tested : (ls xs : List ℕ) (r : Bool) (t : Texts) → t ≡ lettered (getD ls e 0) →
-      r ≡ ((mayBeBlank e && blank (take (at + d - at) (drop at xs))) || allows t (take (at + d - at) (drop at xs))) → r ≡ byLetters ls xs e
+  pub tested : (ls xs : List ℕ) (r : Bool) →
+      r ≡ ((mayBeBlank e && blank (take (at + d - at) (drop at xs))) || allows (lettered (getD ls e 0)) (take (at + d - at) (drop at xs))) → r ≡ byLetters ls xs e
   unfolding byLetters
-  tested ls xs r t f g = g ∙ rw (part xs, f)
+  tested ls xs r g = g ∙ rw (part xs)
 
 -- the letters are an edition's, so what they find is what the page finds
 pub same-place : (ed : Edition) (ls xs : List ℕ) → LetterRow ed ls → (last : ℕ) → last ≡ lastOf ed →

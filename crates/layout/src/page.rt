@@ -109,12 +109,12 @@ fn is_missing(e: usize, text: &[u8]) -> bool
     text::is_blank(text)
 }
 
-// Is it that, or one of the element's texts?
-fn is_legal(e: usize, texts: Texts, text: &[u8]) -> bool
+// Is it that, or one of the texts that the letter stands for?
+fn is_legal(e: usize, letter: u8, text: &[u8]) -> bool
     requires { ⌜ length (now text) ≤ 7 ⌝ }
-    ensures { λ r. ⌜ r ≡ ((mayBeBlank e && blank (now (text .entry))) || allows texts (now (text .entry))) ⌝ }
+    ensures { λ r. ⌜ r ≡ ((mayBeBlank e && blank (now (text .entry))) || allows (lettered letter) (now (text .entry))) ⌝ }
 {
-    is_missing(e, text) || text::is_one(texts, text)
+    is_missing(e, text) || text::is_one(texts_of(letter), text)
 }
 
 // The lowest element that is neither blank nor legal, or 0.
@@ -129,7 +129,7 @@ pub fn first_illegal(edition: Edition, line: &[u8]) -> usize
     let mut e = 1;
     while e <= last {
         let end = at + digit(widths[e]);
-        if !is_legal(e, texts_of(letters[e]), &line[at..end]) {
+        if !is_legal(e, letters[e], &line[at..end]) {
             return e;
         }
         at = end;

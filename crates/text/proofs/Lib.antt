@@ -4,3 +4,4 @@ pub mod Every
 pub mod Blanks
 pub mod Numbers
 pub mod First
+pub mod Bits

@@ -1,6 +1,6 @@
 -- A loop over the digits of a number: what is left of `numberFrom`, and how large the number can grow. Assumes nothing.
-use mathlib.Core.Path.{_≡_, ap, _∙_}
-use mathlib.Core.Bool.{Bool, true, _&&_}
+use mathlib.Core.Path.{_≡_, refl, sym, ap, _∙_}
+use mathlib.Core.Bool.{Bool, true, false, cond, _&&_}
 use mathlib.Core.List.{List}
 use Prim.Native.Nat.{ℕ, _+_, _-_, _*_, _^_, _<_, _≤_}
 use native.Mathlib.Nat.{pow-succ', pow-le-pow-right}
@@ -10,9 +10,11 @@ use borrow.Author.Tests.{ne-eqb}
 use lib.Dec.{eqb, lit<}
 use lib.ListN.{length, getD, drop, drop-of-length-le}
 use lib.Seq.{drop-cons}
-use Rattle.text.specs.Bytes.{numberFrom, number, digits}
-use Rattle.text.specs.Texts.{among}
-use Rattle.text.proofs.Ways.{and-goes-on}
+use Rattle.text.specs.Bytes.{numberFrom, number, isDigit, digits}
+use Rattle.text.specs.Texts.{among, numeralFrom, numeral}
+use Rattle.text.specs.declared.Numeral.{Numeral}
+use Rattle.text.specs.declared.Numeral.the-variants.{Digits, Other}
+use Rattle.text.proofs.Every.{on, off, end}
 
 module _ (n : ℕ) (xs : List ℕ) (i : ℕ) where
   -- one digit more, and no more
@@ -31,9 +33,37 @@ below-more n i d h k = rw (add-one, pow-succ') (omega arith)
 pub below-seven : (n i : ℕ) → n + 23 ≤ 23 * 10 ^ i → i ≤ 7 → n < 230000000
 below-seven n i h k = omega (arith, pow-le-pow-right {n = 10} (lit< tt) k)
 
--- a test of the number that digits say, where the bytes are digits
-pub digits-number : (p : ℕ → Bool) (t : List ℕ) {x : Bool} (n : ℕ) → x ≡ digits t → x ≡ true → n ≡ number t → (y : Bool) → y ≡ p n → y ≡ (digits t && p (number t))
-digits-number p t n e h f y g = and-goes-on _ _ e y (p (number t)) h (g ∙ ap p f)
+-- digits that go on from n, one that is none of them, and the end
+module _ (n : ℕ) (xs : List ℕ) (i : ℕ) where
+  pub digit-more : i < length xs → isDigit (getD xs i 0) ≡ true → numeralFrom n (drop i xs) ≡ numeralFrom (n * 10 + (getD xs i 0 - 48)) (drop (i + 1) xs)
+  unfolding numeralFrom
+  digit-more h d = rw (on isDigit xs i h d, more n xs i h)
+
+  pub no-digit : i < length xs → isDigit (getD xs i 0) ≡ false → numeralFrom n (drop i xs) ≡ Other
+  unfolding numeralFrom
+  no-digit h d = rw (off isDigit xs i h d)
+
+  pub digits-end : length xs ≤ i → numeralFrom n (drop i xs) ≡ Digits n
+  unfolding numeralFrom
+  digits-end h = rw (end isDigit xs i h, no-more n xs i h)
+
+-- a test of the number that some bytes say, where they are digits and where they are not
+module _ (p : ℕ → Bool) (t : List ℕ) (m : Numeral) (e : m ≡ numeral t) where
+  pub with-digits : (n : ℕ) → m ≡ Digits n → (y : Bool) → y ≡ p n → y ≡ (digits t && p (number t))
+  unfolding numeralFrom
+  with-digits n d y f = f ∙ said (digits t) (number t) (sym d ∙ e)
+    where
+      said : (b : Bool) (k : ℕ) → Digits n ≡ cond b (Digits k) Other → p n ≡ (b && p k)
+      said true k g = let h : n ≡ k = cc in ap p h
+      said false k g = let z : _≡_ {A = ℕ} 0 1 = cc in absurd (omega arith)
+
+  pub without-digits : m ≡ Other → false ≡ (digits t && p (number t))
+  unfolding numeralFrom
+  without-digits d = unsaid (digits t) (number t) (sym d ∙ e)
+    where
+      unsaid : (b : Bool) (k : ℕ) → Other ≡ cond b (Digits k) Other → false ≡ (b && p k)
+      unsaid true k g = let z : _≡_ {A = ℕ} 0 1 = cc in absurd (omega arith)
+      unsaid false k g = refl
 
 pub among-last : (n a b c d : ℕ) → (n ≡ a → ⊥) → (n ≡ b → ⊥) → (n ≡ c → ⊥) → eqb n d ≡ among a b c d n
 among-last n a b c d p q r = rw (ne-eqb n a p, ne-eqb n b q, ne-eqb n c r)

@@ -1,12 +1,14 @@
 -- Which texts a legal form allows. Assumes nothing.
 use Prim.Native.Nat.{ℕ}
 use mathlib.Core.List.{List}
-use mathlib.Core.Bool.{Bool, false, _&&_, _||_}
+use mathlib.Core.Bool.{Bool, false, cond, _&&_, _||_}
 use lib.Dec.{eqb, leb}
 use lib.ListN.{drop}
-use Rattle.text.specs.Bytes.{every, between, either, printable, isDigit, isLetter, blank, digits, number, run}
+use Rattle.text.specs.Bytes.{every, between, either, printable, isDigit, isLetter, blank, digits, number, numberFrom, run}
 use Rattle.text.specs.declared.Texts.{Texts}
 use Rattle.text.specs.declared.Texts.the-variants.{Nothing, Printable, Letters, CallSign, DigitOr, Within, Either, OneOf}
+use Rattle.text.specs.declared.Numeral.{Numeral}
+use Rattle.text.specs.declared.Numeral.the-variants.{Digits, Other}
 
 -- a number that is one of four
 abbrev pub among : ℕ → ℕ → ℕ → ℕ → ℕ → Bool
@@ -34,3 +36,10 @@ allows (DigitOr x) t = every (digitOr x) t
 allows (Within a b) t = digits t && between a b (number t)
 allows (Either a b c d) t = digits t && either a b c d (number t)
 allows (OneOf a b c d) t = digits t && among a b c d (number t)
+
+-- what some bytes say after digits that said n: the number where all of them are digits
+unfoldable pub numeralFrom : ℕ → List ℕ → Numeral
+numeralFrom n t = cond (digits t) (Digits (numberFrom n t)) Other
+
+abbrev pub numeral : List ℕ → Numeral
+numeral t = numeralFrom 0 t

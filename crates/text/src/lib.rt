@@ -2,11 +2,12 @@
 //
 // Every function takes the columns alone, as a part of the record. What a record's columns are is
 // the business of `layout`. The contracts cite `specs/Bytes.antt` and `specs/Texts.antt`.
+ghost use mathlib.Core.Bool.{true};
 ghost use mathlib.Core.Path.{_≡_};
 ghost use Prim.Native.Nat.{_≤_, _-_};
 ghost use lib.ListN.{length, take};
-ghost use Rattle.text.specs.Bytes.{every, between, either, blank, number, run, toLastNonBlank};
-ghost use Rattle.text.specs.Texts.{among, callSign, allows};
+ghost use Rattle.text.specs.Bytes.{every, between, either, printable, blank, number, run, toLastNonBlank};
+ghost use Rattle.text.specs.Texts.{among, callSign, allows, numeral};
 
 // The texts that an element may hold where it is not blank.
 pub enum Texts {
@@ -28,6 +29,12 @@ pub enum Texts {
     OneOf(u32, u32, u32, u32),
 }
 
+// What some bytes say, taken as a number.
+pub enum Numeral {
+    Digits(u32),
+    Other,
+}
+
 // Is every byte one from lo to hi?
 pub fn all_between(text: &[u8], lo: u8, hi: u8) -> bool
     ensures { λ r. ⌜ r ≡ every (between lo hi) (now (text .entry)) ⌝ }
@@ -44,6 +51,33 @@ pub fn all_between(text: &[u8], lo: u8, hi: u8) -> bool
         i += 1;
     }
     true
+}
+
+// 0 where the byte is printable.
+fn outside(b: u8) -> u8
+    ensures { λ r. ⌜ (r ≡ 0 → printable b ≡ true) ⌝ }
+{
+    if b < 32 {
+        return 1;
+    }
+    if 126 < b {
+        return 1;
+    }
+    0
+}
+
+// 0 only where every byte is printable. It goes to the end whatever it meets, so that the compiler
+// can take many bytes at a time.
+pub fn unprintable(text: &[u8]) -> u8
+    ensures { λ r. ⌜ (r ≡ 0 → every printable (now (text .entry)) ≡ true) ⌝ }
+{
+    let mut bad = 0u8;
+    let mut i = 0;
+    while i < text.len() {
+        bad = bad | outside(text[i]);
+        i += 1;
+    }
+    bad
 }
 
 // Is it blank over all of the columns, that is, missing?
@@ -145,15 +179,35 @@ fn is_digit_or(text: &[u8], x: u8) -> bool
     front(text, 48, 57, wide(x), wide(x)) == text.len()
 }
 
+// The number that up to seven bytes say, if they are digits.
+fn numeral_of(text: &[u8]) -> Numeral
+    requires { ⌜ length (now text) ≤ 7 ⌝ }
+    ensures { λ r. ⌜ r ≡ numeral (now (text .entry)) ⌝ }
+{
+    let mut n: u32 = 0;
+    let mut i = 0;
+    while i < text.len() {
+        let b = text[i];
+        if b < 48 {
+            return Numeral::Other;
+        }
+        if 57 < b {
+            return Numeral::Other;
+        }
+        n = n * 10 + wide(b - 48);
+        i += 1;
+    }
+    Numeral::Digits(n)
+}
+
 // Are these digits whose number is from a to b?
 fn is_within(text: &[u8], a: u32, b: u32) -> bool
     requires { ⌜ length (now text) ≤ 7 ⌝ }
     ensures { λ r. ⌜ r ≡ allows (Texts.Within a b) (now (text .entry)) ⌝ }
 {
-    if all_between(text, 48, 57) {
-        is_between(number_of(text), a, b)
-    } else {
-        false
+    match numeral_of(text) {
+        Numeral::Digits(n) => is_between(n, a, b),
+        Numeral::Other => false,
     }
 }
 
@@ -162,10 +216,9 @@ fn is_in_either(text: &[u8], a: u32, b: u32, c: u32, d: u32) -> bool
     requires { ⌜ length (now text) ≤ 7 ⌝ }
     ensures { λ r. ⌜ r ≡ allows (Texts.Either a b c d) (now (text .entry)) ⌝ }
 {
-    if all_between(text, 48, 57) {
-        is_either(number_of(text), a, b, c, d)
-    } else {
-        false
+    match numeral_of(text) {
+        Numeral::Digits(n) => is_either(n, a, b, c, d),
+        Numeral::Other => false,
     }
 }
 
@@ -174,10 +227,9 @@ fn is_one_of(text: &[u8], a: u32, b: u32, c: u32, d: u32) -> bool
     requires { ⌜ length (now text) ≤ 7 ⌝ }
     ensures { λ r. ⌜ r ≡ allows (Texts.OneOf a b c d) (now (text .entry)) ⌝ }
 {
-    if all_between(text, 48, 57) {
-        is_among(number_of(text), a, b, c, d)
-    } else {
-        false
+    match numeral_of(text) {
+        Numeral::Digits(n) => is_among(n, a, b, c, d),
+        Numeral::Other => false,
     }
 }
 

@@ -1,30 +1,32 @@
 -- `text::is_within` meets its contract. Assumes nothing.
-use Rattle.text.proofs.Numbers.{digits-number}
-use Rattle.text.proofs.Ways.{and-fails}
+use Rattle.text.proofs.Numbers.{with-digits, without-digits}
 use Rattle.text.specs.Bytes.{between}
 use Rattle.text.specs.Texts.{allows}
 use borrow.Author.Needs.{needs}
 use Rattle.text.proofs.is_within.Statement.{statement}
 use Rattle.text.proofs.is_within.Tie as tie
 
-all-between-requires : tie.Need-all-between-requires
-all-between-requires c κs = search needs
+numeral-of-requires : tie.Need-numeral-of-requires
+numeral-of-requires c κs = search needs
 
-number-of-requires : tie.Need-number-of-requires
-number-of-requires c κs = search needs
+enum-known-n : tie.Need-enum-known-n
+enum-known-n c = search needs
 
 is-between-requires : tie.Need-is-between-requires
 is-between-requires c κs = search needs
 
+enum-told : tie.Need-enum-told
+enum-told c = search needs
+
 returns : tie.Need-returns
 unfolding allows
-returns c = digits-number (between _ _) _ _ (c .before .before .before .all-between .ensures) (c .before .before .if1 .taken) (c .before .number-of .ensures) _ (c .is-between .ensures)
+returns c = with-digits (between _ _) _ _ (c .before .before .before .before .numeral-of .ensures) _ (c .before .before .n .given .1) _ (c .is-between .ensures)
 
 returns-2 : tie.Need-returns-2
 unfolding allows
-returns-2 c = and-fails _ _ (c .before .all-between .ensures) _ (c .if1 .left)
+returns-2 c = without-digits (between _ _) _ _ (c .before .before .numeral-of .ensures) (c .enum-told .given .1)
 
 pub is-within-spec : {M : Type 1} → statement M
 is-within-spec =
     tie.close
-    (tie.spec all-between-requires number-of-requires is-between-requires returns returns-2)
+    (tie.spec numeral-of-requires enum-known-n is-between-requires enum-told returns returns-2)

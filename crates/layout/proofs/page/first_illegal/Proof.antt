@@ -32,23 +32,23 @@ ends c =
 -- what the test answers
 answers : (c : tie.After-is-legal Inv-loop μ-loop) →
     c .is-legal .result ≡
-    byLetters (c .before .before .before .before .before .before .before .letters-in .result) (c .before .before .before .before .before .before .before .before .before .before .args .line .now)
-    (c .before .before .before .before .before .loop .e)
+    byLetters (c .before .before .before .before .before .before .letters-in .result) (c .before .before .before .before .before .before .before .before .before .args .line .now)
+    (c .before .before .before .before .loop .e)
 answers c =
-    tested _ (c .before .before .before .before .before .before .before .before .widths .ensures) _ _ _ (c .before .before .before .before .before .loop .inv .0)
-    (c .before .before .before .digit .ensures) _ _ _ _ (c .before .before .texts-of .ensures) (c .is-legal .ensures)
+    tested _ (c .before .before .before .before .before .before .before .widths .ensures) _ _ _ (c .before .before .before .before .loop .inv .0)
+    (c .before .before .digit .ensures) _ _ _ (c .is-legal .ensures)
 
 -- what the page finds is what the letters find
 place : (c : tie.Then1 Inv-loop μ-loop) →
-    firstOf (lastOf (c .before .before .before .before .before .before .before .before .before .before .before .args .edition))
-    (legal (c .before .before .before .before .before .before .before .before .before .before .before .args .edition)
-    (c .before .before .before .before .before .before .before .before .before .before .before .args .line .now)) ≡
-    firstOf (c .before .before .before .before .before .before .before .last .result)
-    (byLetters (c .before .before .before .before .before .before .before .before .letters-in .result)
-    (c .before .before .before .before .before .before .before .before .before .before .before .args .line .now))
+    firstOf (lastOf (c .before .before .before .before .before .before .before .before .before .before .args .edition))
+    (legal (c .before .before .before .before .before .before .before .before .before .before .args .edition)
+    (c .before .before .before .before .before .before .before .before .before .before .args .line .now)) ≡
+    firstOf (c .before .before .before .before .before .before .last .result)
+    (byLetters (c .before .before .before .before .before .before .before .letters-in .result)
+    (c .before .before .before .before .before .before .before .before .before .before .args .line .now))
 place c =
-    sym (same-place _ _ _ (c .before .before .before .before .before .before .before .before .letters-in .ensures) _
-    (c .before .before .before .before .before .before .before .last .ensures))
+    sym (same-place _ _ _ (c .before .before .before .before .before .before .before .letters-in .ensures) _
+    (c .before .before .before .before .before .before .last .ensures))
 
 widths-requires : tie.Need-widths-requires Inv-loop μ-loop
 widths-requires c κs = search needs
@@ -72,11 +72,8 @@ digit-requires c κs = search needs
 add-end : tie.Need-add-end Inv-loop μ-loop
 add-end c = omega (arith, ends c)
 
-array-read-texts-of : tie.Need-array-read-texts-of Inv-loop μ-loop
-array-read-texts-of c = below (c .before)
-
-texts-of-requires : tie.Need-texts-of-requires Inv-loop μ-loop
-texts-of-requires c κs = search needs
+array-read-is-legal : tie.Need-array-read-is-legal Inv-loop μ-loop
+array-read-is-legal c = below (c .before)
 
 sub-is-legal : tie.Need-sub-is-legal Inv-loop μ-loop
 sub-is-legal c = search needs
@@ -85,25 +82,25 @@ part-is-legal-start : tie.Need-part-is-legal-start Inv-loop μ-loop
 part-is-legal-start c = search needs
 
 part-is-legal-end : tie.Need-part-is-legal-end Inv-loop μ-loop
-part-is-legal-end c = ends (c .before)
+part-is-legal-end c = ends c
 
 is-legal-requires : tie.Need-is-legal-requires Inv-loop μ-loop
-is-legal-requires c κs = small _ (c .before .before .before .before .before .before .before .widths .ensures) _ _ _ (c .before .before .before .before .loop .inv .0) (c .before .before .digit .ensures) _
+is-legal-requires c κs = small _ (c .before .before .before .before .before .before .widths .ensures) _ _ _ (c .before .before .before .loop .inv .0) (c .before .digit .ensures) _
 
 returns : tie.Need-returns Inv-loop μ-loop
-returns c = sym (place c ∙ c .before .before .before .before .before .before .loop .inv .1 ∙ off (byLetters _ _) _ _ (c .before .before .before .before .before .loop-test .taken) (sym (answers (c .before)) ∙ not-true _ (c .if1 .taken)))
+returns c = sym (place c ∙ c .before .before .before .before .before .loop .inv .1 ∙ off (byLetters _ _) _ _ (c .before .before .before .before .loop-test .taken) (sym (answers (c .before)) ∙ not-true _ (c .if1 .taken)))
 
 add-e : tie.Need-add-e Inv-loop μ-loop
-add-e c = omega (arith, below (c .before .before .before .before .before))
+add-e c = omega (arith, below (c .before .before .before .before))
 
 loop-less : tie.Need-loop-less Inv-loop μ-loop
 loop-less c = search needs
 
 loop-again : tie.Need-loop-again Inv-loop μ-loop
 loop-again c = (
-  next _ (c .before .before .before .before .before .before .before .before .before .widths .ensures) _ _ _ (c .before .before .before .before .before .before .loop .inv .0) (c .before .before .before .before .digit .ensures),
-  c .before .before .before .before .before .before .loop .inv .1 ∙
-      on (byLetters _ _) _ _ (c .before .before .before .before .before .loop-test .taken) (sym (answers (c .before)) ∙ not-false _ (c .if1 .left)),
+  next _ (c .before .before .before .before .before .before .before .before .widths .ensures) _ _ _ (c .before .before .before .before .before .loop .inv .0) (c .before .before .before .digit .ensures),
+  c .before .before .before .before .before .loop .inv .1 ∙
+      on (byLetters _ _) _ _ (c .before .before .before .before .loop-test .taken) (sym (answers (c .before)) ∙ not-false _ (c .if1 .left)),
 )
 
 returns-2 : tie.Need-returns-2 Inv-loop μ-loop
@@ -122,8 +119,7 @@ first-illegal-spec =
     array-read-digit
     digit-requires
     add-end
-    array-read-texts-of
-    texts-of-requires
+    array-read-is-legal
     sub-is-legal
     part-is-legal-start
     part-is-legal-end

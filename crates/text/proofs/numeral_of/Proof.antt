@@ -1,0 +1,78 @@
+-- `text::numeral_of` meets its contract: the digits that are left go on from the number so far, which is small enough for seven. Assumes nothing.
+use Prim.Native.Nat.{_*_, _+_, _-_, _<_, _^_, _≤_, ℕ}
+use Rattle.text.proofs.Numbers.{below-more, below-seven, digit-more, digits-end, no-digit}
+use Rattle.text.specs.Texts.{numeral, numeralFrom}
+use borrow.Author.Needs.{needs}
+use borrow.Author.Tests.{le-leb, lt-leb}
+use lib.ListN.{drop, length}
+use mathlib.Core.Path.{_∙_, _≡_, ap, sym}
+use native.Mathlib.Omega.{arith}
+use Rattle.text.proofs.numeral_of.Statement.{statement}
+use Rattle.text.proofs.numeral_of.Tie as tie
+
+abbrev Inv-loop : tie.InvT-loop
+Inv-loop text n₀ i₀ n i = (i ≤ length text) × ((n + 23 ≤ 23 * 10 ^ i) × (numeral text ≡ numeralFrom n (drop i text)))
+
+abbrev μ-loop : tie.MeasureT-loop
+μ-loop text n₀ i₀ n i = length text - i
+
+small : (c : tie.In-loop Inv-loop μ-loop) → c .before .loop .n < 230000000
+small c = below-seven _ _ (c .before .loop .inv .1 .0) (omega arith)
+
+loop-holds : tie.Need-loop-holds Inv-loop μ-loop
+loop-holds c = search needs
+
+shared-slice-read-b : tie.Need-shared-slice-read-b Inv-loop μ-loop
+shared-slice-read-b c = search needs
+
+returns : tie.Need-returns Inv-loop μ-loop
+returns c = sym (c .before .before .before .loop .inv .1 .1 ∙ no-digit _ _ _ (c .before .before .loop-test .taken) (rw (lt-leb _ _ (c .if1 .taken))))
+
+returns-2 : tie.Need-returns-2 Inv-loop μ-loop
+returns-2 c = sym (c .before .before .before .before .loop .inv .1 .1 ∙ no-digit _ _ _ (c .before .before .before .loop-test .taken) (rw (le-leb _ _ (c .before .if1 .left), lt-leb _ _ (c .if2 .taken))))
+
+mul-n : tie.Need-mul-n Inv-loop μ-loop
+mul-n c = omega (arith, small (c .before .before .before))
+
+wide-requires : tie.Need-wide-requires Inv-loop μ-loop
+wide-requires c κs = search needs
+
+add-n : tie.Need-add-n Inv-loop μ-loop
+add-n c = omega (arith, small (c .before .before .before .before), c .wide .ensures)
+
+add-i : tie.Need-add-i Inv-loop μ-loop
+add-i c = search needs
+
+loop-less : tie.Need-loop-less Inv-loop μ-loop
+loop-less c = search needs
+
+loop-again : tie.Need-loop-again Inv-loop μ-loop
+loop-again c = (
+  omega arith,
+  (
+    below-more _ _ _ (c .before .before .before .before .before .loop .inv .1 .0) (omega (arith, c .wide .ensures)),
+    c .before .before .before .before .before .loop .inv .1 .1 ∙ digit-more _ _ _ (c .before .before .before .before .loop-test .taken) (rw (le-leb _ _ (c .before .before .if1 .left), le-leb _ _ (c .before .if2 .left))) ∙
+        ap (λ (d : ℕ). numeralFrom (c .before .before .before .before .before .loop .n * 10 + d) (drop (c .before .before .before .before .before .loop .i + 1) (c .before .before .before .before .before .before .before .args .text .now))) (sym (c .wide .ensures)),
+  ),
+)
+
+returns-3 : tie.Need-returns-3 Inv-loop μ-loop
+returns-3 c = sym (c .before .loop .inv .1 .1 ∙ digits-end _ _ _ (c .loop-test .left))
+
+pub numeral-of-spec : {M : Type 1} → statement M
+numeral-of-spec =
+    tie.close
+    (tie.spec
+    Inv-loop
+    μ-loop
+    loop-holds
+    shared-slice-read-b
+    returns
+    returns-2
+    mul-n
+    wide-requires
+    add-n
+    add-i
+    loop-less
+    loop-again
+    returns-3)

@@ -15,7 +15,7 @@ use Rattle.layout.specs.declared.Refusal.{Refusal}
 use Rattle.layout.specs.declared.Refusal.the-variants.{Length, Unprintable, Format, EditionLength, Illegal, Broken}
 use Rattle.layout.specs.Editions.{editionOf, lengthOf, lastOf}
 use Rattle.layout.specs.Page.{legal}
-use Rattle.layout.specs.Ties.{tie}
+use Rattle.ties.specs.Ties.{tie}
 use Rattle.checking.specs.declared.Answer.{Answer}
 use Rattle.checking.specs.declared.Answer.the-variants.{Accepted, Refused}
 use Rattle.checking.specs.Check.{knownLength, knownFormat, printableAt, named, column, refusedAt, checkedIn, checked}

@@ -4,4 +4,5 @@ pub mod CheckLaws
 pub mod Told
 pub mod Demand1Refusals
 pub mod Demand2Acceptance
+pub mod Demand2CallSign
 pub mod SignLaws

@@ -20,13 +20,14 @@ use Rattle.layout.specs.declared.Refusal.the-variants.{Length, Unprintable, For
 use Rattle.layout.specs.Editions.{lengthOf, lastOf}
 use Rattle.layout.specs.Page.{legal}
 use Rattle.layout.specs.Refusals.{numberOf, placeOf}
-use Rattle.layout.specs.Ties.{tie}
+use Rattle.ties.specs.Ties.{tie}
 use Rattle.checking.specs.declared.Answer.{Answer}
 use Rattle.checking.specs.declared.Answer.the-variants.{Accepted, Refused}
 use Rattle.checking.specs.Check.{column, knownLength, printableAt, knownFormat, named, unless, refusedAt, checkedIn, checked}
 use Rattle.checking.specs.Rules.{only, isKnown, ofEdition, rules, rule, FirstFailure}
 use Rattle.checking.specs.Acceptable.{Acceptable, Fits}
-use Rattle.layout.proofs.Beyond.{legal-none, legal-zero, tie-none, tie-zero}
+use Rattle.layout.proofs.Beyond.{legal-none, legal-zero}
+use Rattle.ties.proofs.TieLaws.{tie-none, tie-zero}
 use Rattle.checking.proofs.Placed.{column-none, blank-zero}
 
 -- what an answer is known to say of the record: it fits, and where it accepts every rule holds at every place

@@ -9,7 +9,7 @@ use Rattle.layout.specs.declared.Edition.{Edition}
 use Rattle.layout.specs.declared.Named.the-variants.{Known}
 use Rattle.layout.specs.Editions.{editionOf, lengthOf, lastOf}
 use Rattle.layout.specs.Page.{legal}
-use Rattle.layout.specs.Ties.{tie}
+use Rattle.ties.specs.Ties.{tie}
 use Rattle.layout.specs.Refusals.{numberOf, placeOf}
 use Rattle.checking.specs.declared.Answer.{Answer}
 use Rattle.checking.specs.declared.Answer.the-variants.{Accepted, Refused}

@@ -15,7 +15,7 @@ use Rattle.layout.specs.declared.Refusal.the-variants.{Length, Unprintable, For
 use Rattle.layout.specs.Editions.{editionOf, lengthOf, lastOf}
 use Rattle.layout.specs.Page.{legal, textOf}
 use Rattle.layout.specs.Refusals.{numberOf, placeOf}
-use Rattle.layout.specs.Ties.{tie}
+use Rattle.ties.specs.Ties.{tie}
 use Rattle.checking.specs.declared.Answer.{Answer}
 use Rattle.checking.specs.declared.Answer.the-variants.{Accepted, Refused}
 

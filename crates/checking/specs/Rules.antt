@@ -10,7 +10,7 @@ use Rattle.layout.specs.declared.Named.{Named}
 use Rattle.layout.specs.declared.Named.the-variants.{Known, Unknown}
 use Rattle.layout.specs.Editions.{lengthOf}
 use Rattle.layout.specs.Page.{legal}
-use Rattle.layout.specs.Ties.{tie}
+use Rattle.ties.specs.Ties.{tie}
 use Rattle.checking.specs.Check.{column, knownLength, printableAt, knownFormat, named}
 
 -- a rule that looks at one place holds at every other

@@ -83,7 +83,7 @@ fn check_in(edition: Edition, line: &[u8]) -> Answer
     if e != 0 {
         return Answer::Refused(Refusal::Illegal(e));
     }
-    let k = layout::ties::first_broken(edition, line);
+    let k = ties::first_broken(edition, line);
     if k != 0 {
         return Answer::Refused(Refusal::Broken(k));
     }

@@ -12,6 +12,8 @@ pub extern "C" fn immt_check(line: &[u8], place: &mut u64) -> u64
     ensures { λ r. ⌜ now (place .exit) ≡ answerPlace (checked (now (line .entry))) ⌝ }
 {
     let answer = checking::check(line);
-    *place = answer.place();
-    answer.number()
+    let at = answer.place();
+    let number = answer.number();
+    *place = at;
+    number
 }

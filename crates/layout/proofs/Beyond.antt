@@ -1,4 +1,4 @@
--- A number of no element and a number of no tie: there is nothing written there, and nothing to break. Assumes nothing.
+-- A number of no element: there is nothing written there, and nothing that is not legal. Assumes nothing.
 use mathlib.Core.Path.{_≡_, refl, sym, ap, _∙_}
 use mathlib.Core.Bool.{Bool, true}
 use mathlib.Core.List.{List, []}
@@ -6,15 +6,18 @@ use Prim.Native.Nat.{ℕ, zero, suc, _+_, _<_, _≤_}
 use native.Mathlib.Omega.{arith}
 use borrow.Author.Tests.{ne-eqb}
 use lib.Dec.{lit≤}
-use lib.ListN.{length, take, drop, drop-of-length-le, List·getD-eq-default}
+use lib.ListN.{length, take, drop, drop-of-length-le}
 use Rattle.text.specs.Bytes.{every}
 use Rattle.layout.specs.declared.Edition.{Edition}
 use Rattle.layout.specs.declared.Edition.the-variants.{One, Three, Four}
 use Rattle.layout.specs.Editions.{lengthOf, lastOf}
 use Rattle.layout.specs.Page.{element, startOf, widthOf, textOf, legal}
-use Rattle.layout.specs.Ties.{ties, tie}
 use Rattle.layout.proofs.Columns.{start-rises, filled}
-use Rattle.layout.proofs.TieLaws.{take-none}
+
+-- there is nothing to take of nothing
+pub take-none : (n : ℕ) → _≡_ {A = List ℕ} [] (take n [])
+take-none zero = refl
+take-none (suc n) = refl
 
 last-above : (ed : Edition) → 85 ≤ lastOf ed
 last-above One = lit≤ tt
@@ -40,11 +43,3 @@ module _ (ed : Edition) (xs : List ℕ) where
   pub legal-zero : legal ed xs 0 ≡ true
   unfolding legal textOf element every
   legal-zero = refl
-
-  pub tie-none : (k : ℕ) → 9 < k → tie ed xs k ≡ true
-  unfolding tie
-  tie-none k h = List·getD-eq-default (ties ed xs) true h
-
-  pub tie-zero : tie ed xs 0 ≡ true
-  unfolding tie
-  tie-zero = refl

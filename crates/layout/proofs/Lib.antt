@@ -2,6 +2,6 @@
 pub mod Columns
 pub mod Rows
 pub mod Elements
-pub mod TieLaws
 pub mod Beyond
 pub mod RefusalLaws
+pub mod Demand2Columns

@@ -1,9 +1,8 @@
-// The three editions of the IMMT record: their lengths, the layout page, the ties between elements,
-// and what a call answers where it refuses.
+// The three editions of the IMMT record: their lengths, the layout page, and what a call answers where
+// it refuses.
 //
 // The definitions of specs/ are the document; the functions here are what they compute.
 pub mod page;
-pub mod ties;
 
 ghost use mathlib.Core.Path.{_≡_};
 ghost use Rattle.layout.specs.Editions.{editionOf, lengthOf, lastOf};

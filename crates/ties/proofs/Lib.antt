@@ -1,0 +1,2 @@
+-- The laws of the ties that the functions of this crate and of those above it cite.
+pub mod TieLaws

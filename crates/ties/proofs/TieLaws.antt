@@ -1,0 +1,91 @@
+-- What each way through a tie's code says of the tie. Assumes nothing.
+use mathlib.Core.Path.{_≡_, refl, sym, ap, _∙_}
+use mathlib.Core.Bool.{Bool, true, false, not, _&&_, Bool·beq, false≢true}
+use mathlib.Core.List.{List, []}
+use Prim.Native.Nat.{ℕ, zero, suc, _+_, _-_, _≤_, _<_}
+use native.Mathlib.Nat.{add-sub-cancel-left, min-le-left, eq-zero-or-pos}
+use native.Mathlib.Omega.{arith}
+use lib.Dec.{eqb}
+use mathlib.Core.Logic.{⊎-elim}
+use lib.ListN.{length, List·getD-eq-default, take, drop, drop-of-length-le, length-take, length-drop}
+use lib.Seq.{take-all}
+use Rattle.text.specs.Bytes.{number}
+use Rattle.text.proofs.Ways.{and-stops, and-goes-on}
+use Rattle.layout.proofs.Beyond.{take-none}
+use Rattle.ties.specs.Ties.{there, placeTie, octantFits, negative, signTie, lastDigit, digitTie, ties, tie}
+use Rattle.layout.specs.declared.Edition.{Edition}
+
+-- the columns of a record: past its end, up to its end, and within it
+module _ (xs : List ℕ) (start width : ℕ) where
+  pub past : length xs ≤ start → [] ≡ take width (drop start xs)
+  past h = rw (drop-of-length-le xs h) (take-none width)
+
+  pub to-the-end : length xs - start ≤ width → take (length xs - start) (drop start xs) ≡ take width (drop start xs)
+  to-the-end h = take-all (length xs - start) (drop start xs) (rw length-drop (omega arith)) ∙ sym (take-all width (drop start xs) (rw length-drop h))
+
+  pub inside : take (start + width - start) (drop start xs) ≡ take width (drop start xs)
+  inside = rw (add-sub-cancel-left start width)
+
+-- what was taken is no more than the width
+pub at-most : (xs ts : List ℕ) (start width : ℕ) → ts ≡ take width (drop start xs) → length ts ≤ width
+at-most xs ts start width e = rw (e, length-take) (min-le-left width (length (drop start xs)))
+
+pub same-true : (a b : Bool) → a ≡ true → b ≡ Bool·beq a b
+same-true true true e = refl
+same-true true false e = refl
+same-true false b e = absurd (false≢true e)
+
+-- two texts: both there or both blank
+module _ (s t : List ℕ) (x y r : Bool) (e : x ≡ there s) (f : y ≡ there t) (g : r ≡ Bool·beq x y) where
+  pub both : r ≡ Bool·beq (there s) (there t)
+  both = g ∙ ap (λ (q : Bool). Bool·beq q y) e ∙ ap (Bool·beq (there s)) f
+
+  pub place-stops : (u : List ℕ) → r ≡ false → r ≡ placeTie s t u
+  unfolding placeTie
+  place-stops u h = and-stops _ _ both _ h
+
+  pub place-goes-on : (u : List ℕ) → r ≡ true → (z k : Bool) → z ≡ there u → k ≡ Bool·beq y z → k ≡ placeTie s t u
+  unfolding placeTie
+  place-goes-on u h z k l m = and-goes-on _ _ both _ _ h (m ∙ ap (λ (q : Bool). Bool·beq q z) f ∙ ap (Bool·beq (there t)) l)
+
+  pub sign-stops : r ≡ false → r ≡ signTie s t
+  unfolding signTie
+  sign-stops h = and-stops _ _ both _ h
+
+  pub sign-goes-on : r ≡ true → (m n : ℕ) (z : Bool) → m ≡ number s → n ≡ number t → z ≡ (negative m && eqb n 0) → not z ≡ signTie s t
+  unfolding signTie
+  sign-goes-on h m n z k l o = and-goes-on _ _ both _ _ h (ap (λ (q : Bool). not q) (o ∙ ap (λ (q : ℕ). negative q && eqb n 0) k ∙ ap (λ (q : ℕ). negative (number s) && eqb q 0) l))
+
+pub octant-of : {q m : ℕ} (l n : ℕ) {r : Bool} → q ≡ m → l ≡ n → r ≡ octantFits q l → r ≡ octantFits m n
+octant-of {q} {m} l n e f g = g ∙ ap (λ (k : ℕ). octantFits k l) e ∙ ap (octantFits m) f
+
+-- a test of some texts, each of which is known
+module _ {A : Type 0} {r : Bool} where
+  pub of-two : (f : A → A → Bool) {a a′ b b′ : A} → r ≡ f a b → a ≡ a′ → b ≡ b′ → r ≡ f a′ b′
+  of-two f {a} {a′} {b} {b′} e p q = e ∙ ap (λ x. f x b) p ∙ ap (f a′) q
+
+  pub of-three : (f : A → A → A → Bool) {a a′ b b′ c c′ : A} → r ≡ f a b c → a ≡ a′ → b ≡ b′ → c ≡ c′ → r ≡ f a′ b′ c′
+  of-three f {a} {a′} {b} {b′} {c} {c′} e p q s = of-two (λ x y. f x y c′) (e ∙ ap (f a b) s) p q
+
+pub of-five : (t : List ℕ) (u v w x : List ℕ) {r : Bool} {f a b c d : ℕ} → r ≡ (lastDigit f a && (lastDigit f b && (lastDigit f c && lastDigit f d))) →
+    f ≡ number t → a ≡ number u → b ≡ number v → c ≡ number w → d ≡ number x → r ≡ digitTie t u v w x
+unfolding digitTie
+of-five t u v w x e p q r s z = e ∙ rw (p, q, r, s, z)
+
+beyond : {n k : ℕ} → n ≤ k → (k ≡ n → ⊥) → suc n ≤ k
+beyond h f = omega arith
+
+-- a number of no tie
+pub no-tie : (ed : Edition) (xs : List ℕ) (k : ℕ) → (k ≡ 1 → ⊥) → (k ≡ 2 → ⊥) → (k ≡ 3 → ⊥) → (k ≡ 4 → ⊥) → (k ≡ 5 → ⊥) → (k ≡ 6 → ⊥) → (k ≡ 7 → ⊥) → (k ≡ 8 → ⊥) →
+    (k ≡ 9 → ⊥) → true ≡ tie ed xs k
+unfolding tie
+no-tie ed xs k a b c d e f g h i = ⊎-elim (λ z. rw z) (λ p. sym (List·getD-eq-default (ties ed xs) true (beyond (beyond (beyond (beyond (beyond (beyond (beyond (beyond (beyond p a) b) c) d) e) f) g) h) i))) (eq-zero-or-pos k)
+
+module _ (ed : Edition) (xs : List ℕ) where
+  pub tie-none : (k : ℕ) → 9 < k → tie ed xs k ≡ true
+  unfolding tie
+  tie-none k h = List·getD-eq-default (ties ed xs) true h
+
+  pub tie-zero : tie ed xs 0 ≡ true
+  unfolding tie
+  tie-zero = refl

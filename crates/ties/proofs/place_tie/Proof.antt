@@ -1,0 +1,38 @@
+-- `ties::place_tie` meets its contract. Assumes nothing.
+use Rattle.ties.proofs.TieLaws.{place-goes-on, place-stops}
+use borrow.Author.Needs.{needs}
+use Rattle.ties.proofs.place_tie.Statement.{statement}
+use Rattle.ties.proofs.place_tie.Tie as tie
+
+is-there-requires : tie.Need-is-there-requires
+is-there-requires c κs = search needs
+
+is-there-requires-2 : tie.Need-is-there-requires-2
+is-there-requires-2 c κs = search needs
+
+same-requires : tie.Need-same-requires
+same-requires c κs = search needs
+
+is-there-requires-3 : tie.Need-is-there-requires-3
+is-there-requires-3 c κs = search needs
+
+same-requires-2 : tie.Need-same-requires-2
+same-requires-2 c κs = search needs
+
+returns : tie.Need-returns
+returns c = place-goes-on _ _ _ _ _ (c .before .before .before .before .is-there2 .ensures) (c .before .before .before .before .before .is-there .ensures) (c .before .before .before .same .ensures) _ (c .before .before .if1 .taken) _ _ (c .before .is-there3 .ensures) (c .same2 .ensures)
+
+returns-2 : tie.Need-returns-2
+returns-2 c = place-stops _ _ _ _ _ (c .before .before .is-there2 .ensures) (c .before .before .before .is-there .ensures) (c .before .same .ensures) _ (c .if1 .left)
+
+pub place-tie-spec : {M : Type 1} → statement M
+place-tie-spec =
+    tie.close
+    (tie.spec
+    is-there-requires
+    is-there-requires-2
+    same-requires
+    is-there-requires-3
+    same-requires-2
+    returns
+    returns-2)

@@ -1,0 +1,65 @@
+-- The ties between elements, in document 01's order and words. Each is a test of the elements' texts. Assumes nothing.
+use Prim.Native.Nat.{ℕ, _%_}
+use mathlib.Core.List.{List, [], _∷_}
+use mathlib.Core.Bool.{Bool, true, cond, not, _&&_, _||_, Bool·beq}
+use lib.Dec.{eqb, leb}
+use lib.ListN.{getD}
+use Rattle.text.specs.Bytes.{blank, number}
+use Rattle.text.specs.Texts.{among}
+use Rattle.layout.specs.declared.Edition.{Edition}
+use Rattle.layout.specs.declared.Edition.the-variants.{One, Three, Four}
+use Rattle.layout.specs.Page.{textOf}
+
+-- something is written there
+abbrev pub there : List ℕ → Bool
+there t = not (blank t)
+
+-- 1. column 12, latitude, longitude: all there or all blank
+unfoldable pub placeTie : List ℕ → List ℕ → List ℕ → Bool
+placeTie digit latitude longitude = Bool·beq (there digit) (there latitude) && Bool·beq (there latitude) (there longitude)
+
+-- 2. edition 1: octants 0, 3, 5, 8 need longitude at most 0900; 1, 2, 6, 7 at least 0900
+unfoldable pub octantFits : ℕ → ℕ → Bool
+octantFits octant longitude = cond (among 0 3 5 8 octant) (leb longitude 900) (leb 900 longitude)
+
+unfoldable pub octantTie : Edition → List ℕ → List ℕ → Bool
+octantTie One digit longitude = blank digit || octantFits (number digit) (number longitude)
+octantTie Three digit longitude = true
+octantTie Four digit longitude = true
+
+-- 3 to 6. air, dew point, sea, wet bulb: sign and value both there or both blank; sign 1 or 6 not with 000
+abbrev pub negative : ℕ → Bool
+negative sign = eqb sign 1 || eqb sign 6
+
+unfoldable pub signTie : List ℕ → List ℕ → Bool
+signTie sign value = Bool·beq (there sign) (there value) && not (negative (number sign) && eqb (number value) 0)
+
+-- 7. column 1 = 4 wants last temperature digit 0 or 5, 5 wants 0, for all four; a temperature that is not there says 0
+unfoldable pub lastDigit : ℕ → ℕ → Bool
+lastDigit format value = cond (eqb format 4) (eqb (value % 10) 0 || eqb (value % 10) 5) (cond (eqb format 5) (eqb (value % 10) 0) true)
+
+unfoldable pub digitTie : List ℕ → List ℕ → List ℕ → List ℕ → List ℕ → Bool
+digitTie format air dewPoint sea wetBulb =
+    lastDigit (number format) (number air) && (lastDigit (number format) (number dewPoint) && (lastDigit (number format) (number sea) && lastDigit (number format) (number wetBulb)))
+
+-- 8, 9. ff needs iw; RWS needs iw
+unfoldable pub windTie : List ℕ → List ℕ → Bool
+windTie speed indicator = blank speed || there indicator
+
+-- the ties of a record by number, from 1 on; past the last there is none to break
+abbrev pub ties : Edition → List ℕ → List Bool
+ties ed xs =
+    true ∷
+    placeTie (textOf 6 xs) (textOf 7 xs) (textOf 8 xs) ∷
+    octantTie ed (textOf 6 xs) (textOf 8 xs) ∷
+    signTie (textOf 16 xs) (textOf 17 xs) ∷
+    signTie (textOf 18 xs) (textOf 19 xs) ∷
+    signTie (textOf 28 xs) (textOf 29 xs) ∷
+    signTie (textOf 50 xs) (textOf 51 xs) ∷
+    digitTie (textOf 1 xs) (textOf 17 xs) (textOf 19 xs) (textOf 29 xs) (textOf 51 xs) ∷
+    windTie (textOf 15 xs) (textOf 14 xs) ∷
+    windTie (textOf 93 xs) (textOf 14 xs) ∷
+    []
+
+unfoldable pub tie : Edition → List ℕ → ℕ → Bool
+tie ed xs k = getD (ties ed xs) k true

@@ -1,0 +1,178 @@
+// The ties between elements.
+//
+// Each tie is a test of the texts of its elements, and `holds` hands it their columns. Columns that
+// a record does not have are taken as blank, so no tie asks how long the record is.
+use layout::Edition;
+ghost use mathlib.Core.Path.{_≡_};
+ghost use mathlib.Core.Bool.{Bool·beq, not, _&&_};
+ghost use Prim.Native.Nat.{_≤_};
+ghost use lib.Dec.{eqb};
+ghost use lib.ListN.{length, take, drop};
+ghost use Rattle.text.specs.First.{firstOf};
+ghost use Rattle.ties.specs.Ties.{there, placeTie, octantFits, octantTie, negative, signTie, lastDigit, digitTie, windTie, tie};
+
+// As many of the columns from `start` on as the record has, at most `width`.
+fn columns(line: &[u8], start: usize, width: usize) -> &[u8]
+    ensures { λ r. ⌜ now r ≡ take width (drop start (now (line .entry))) ⌝ }
+    ensures { λ r. ⌜ length (now r) ≤ width ⌝ }
+{
+    if line.len() <= start {
+        return &line[..0];
+    }
+    if line.len() - start <= width {
+        return &line[start..];
+    }
+    &line[start..start + width]
+}
+
+fn is_there(text: &[u8]) -> bool
+    ensures { λ r. ⌜ r ≡ there (now (text .entry)) ⌝ }
+{
+    !text::is_blank(text)
+}
+
+fn same(a: bool, b: bool) -> bool
+    ensures { λ r. ⌜ r ≡ Bool·beq a b ⌝ }
+{
+    if a { b } else { !b }
+}
+
+// Tie 1.
+fn place_tie(digit: &[u8], latitude: &[u8], longitude: &[u8]) -> bool
+    ensures { λ r. ⌜ r ≡ placeTie (now (digit .entry)) (now (latitude .entry)) (now (longitude .entry)) ⌝ }
+{
+    let at = is_there(latitude);
+    same(is_there(digit), at) && same(at, is_there(longitude))
+}
+
+// Does the longitude lie in the octant's range?
+fn octant_fits(octant: u32, longitude: u32) -> bool
+    ensures { λ r. ⌜ r ≡ octantFits octant longitude ⌝ }
+{
+    if text::is_among(octant, 0, 3, 5, 8) {
+        longitude <= 900
+    } else {
+        900 <= longitude
+    }
+}
+
+// Tie 2, in edition 1.
+fn octant_holds(digit: &[u8], longitude: &[u8]) -> bool
+    requires { ⌜ (length (now digit) ≤ 7) × (length (now longitude) ≤ 7) ⌝ }
+    ensures { λ r. ⌜ r ≡ octantTie Edition.One (now (digit .entry)) (now (longitude .entry)) ⌝ }
+{
+    text::is_blank(digit) || octant_fits(text::number_of(digit), text::number_of(longitude))
+}
+
+// Tie 2.
+fn octant_tie(edition: Edition, digit: &[u8], longitude: &[u8]) -> bool
+    requires { ⌜ (length (now digit) ≤ 7) × (length (now longitude) ≤ 7) ⌝ }
+    ensures { λ r. ⌜ r ≡ octantTie edition (now (digit .entry)) (now (longitude .entry)) ⌝ }
+{
+    match edition {
+        Edition::One => octant_holds(digit, longitude),
+        Edition::Three => true,
+        Edition::Four => true,
+    }
+}
+
+// Is it a minus before zeros?
+fn minus_zero(sign: u32, value: u32) -> bool
+    ensures { λ r. ⌜ r ≡ (negative sign && eqb value 0) ⌝ }
+{
+    if sign == 1 {
+        return value == 0;
+    }
+    if sign == 6 {
+        return value == 0;
+    }
+    false
+}
+
+// Ties 3 to 6.
+fn sign_tie(sign: &[u8], value: &[u8]) -> bool
+    requires { ⌜ (length (now sign) ≤ 7) × (length (now value) ≤ 7) ⌝ }
+    ensures { λ r. ⌜ r ≡ signTie (now (sign .entry)) (now (value .entry)) ⌝ }
+{
+    same(is_there(sign), is_there(value))
+        && !minus_zero(text::number_of(sign), text::number_of(value))
+}
+
+// Does the temperature's last digit go with column 1?
+fn last_digit(format: u32, value: u32) -> bool
+    ensures { λ r. ⌜ r ≡ lastDigit format value ⌝ }
+{
+    let last = value % 10;
+    if format == 4 {
+        return last == 0 || last == 5;
+    }
+    if format == 5 {
+        return last == 0;
+    }
+    true
+}
+
+// Tie 7.
+fn digit_tie(format: u32, air: u32, dew_point: u32, sea: u32, wet_bulb: u32) -> bool
+    ensures { λ r. ⌜ r ≡ (lastDigit format air && (lastDigit format «dew_point» && (lastDigit format sea && lastDigit format «wet_bulb»))) ⌝ }
+{
+    if !last_digit(format, air) {
+        return false;
+    }
+    if !last_digit(format, dew_point) {
+        return false;
+    }
+    if !last_digit(format, sea) {
+        return false;
+    }
+    last_digit(format, wet_bulb)
+}
+
+// Ties 8 and 9.
+fn wind_tie(speed: &[u8], indicator: &[u8]) -> bool
+    ensures { λ r. ⌜ r ≡ windTie (now (speed .entry)) (now (indicator .entry)) ⌝ }
+{
+    text::is_blank(speed) || is_there(indicator)
+}
+
+// Does tie k hold?
+fn holds(edition: Edition, line: &[u8], k: usize) -> bool
+    ensures { λ r. ⌜ r ≡ tie edition (now (line .entry)) k ⌝ }
+{
+    match k {
+        1 => place_tie(
+            columns(line, 11, 1),
+            columns(line, 12, 3),
+            columns(line, 15, 4),
+        ),
+        2 => octant_tie(edition, columns(line, 11, 1), columns(line, 15, 4)),
+        3 => sign_tie(columns(line, 29, 1), columns(line, 30, 3)),
+        4 => sign_tie(columns(line, 33, 1), columns(line, 34, 3)),
+        5 => sign_tie(columns(line, 49, 1), columns(line, 50, 3)),
+        6 => sign_tie(columns(line, 88, 1), columns(line, 89, 3)),
+        7 => digit_tie(
+            text::number_of(columns(line, 0, 1)),
+            text::number_of(columns(line, 30, 3)),
+            text::number_of(columns(line, 34, 3)),
+            text::number_of(columns(line, 50, 3)),
+            text::number_of(columns(line, 89, 3)),
+        ),
+        8 => wind_tie(columns(line, 27, 2), columns(line, 26, 1)),
+        9 => wind_tie(columns(line, 148, 3), columns(line, 26, 1)),
+        _ => true,
+    }
+}
+
+// The lowest tie that is broken, or 0.
+pub fn first_broken(edition: Edition, line: &[u8]) -> usize
+    ensures { λ r. ⌜ r ≡ firstOf 9 (tie edition (now (line .entry))) ⌝ }
+{
+    let mut k = 1;
+    while k <= 9 {
+        if !holds(edition, line, k) {
+            return k;
+        }
+        k += 1;
+    }
+    0
+}

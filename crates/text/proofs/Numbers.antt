@@ -10,20 +10,20 @@ use borrow.Author.Tests.{ne-eqb}
 use lib.Dec.{eqb, lit<}
 use lib.ListN.{length, getD, drop, drop-of-length-le}
 use lib.Seq.{drop-cons}
-use Rattle.text.specs.Bytes.{numberFrom, number, isDigit, digits}
+use Rattle.text.specs.Bytes.{valueFrom, numberFrom, number, isDigit, digits}
 use Rattle.text.specs.Texts.{among, numeralFrom, numeral}
 use Rattle.text.specs.declared.Numeral.{Numeral}
 use Rattle.text.specs.declared.Numeral.the-variants.{Digits, Other}
 use Rattle.text.proofs.Every.{on, off, end}
 
-module _ (n : ℕ) (xs : List ℕ) (i : ℕ) where
-  -- one digit more, and no more
-  pub more : i < length xs → numberFrom n (drop i xs) ≡ numberFrom (n * 10 + (getD xs i 0 - 48)) (drop (i + 1) xs)
-  unfolding numberFrom
+-- one byte more of a value in any base, and no more
+module _ (base nought n : ℕ) (xs : List ℕ) (i : ℕ) where
+  pub more : i < length xs → valueFrom base nought n (drop i xs) ≡ valueFrom base nought (n * base + (getD xs i 0 - nought)) (drop (i + 1) xs)
+  unfolding valueFrom
   more h = rw (add-one, drop-cons xs i 0 h)
 
-  pub no-more : length xs ≤ i → numberFrom n (drop i xs) ≡ n
-  unfolding numberFrom
+  pub no-more : length xs ≤ i → valueFrom base nought n (drop i xs) ≡ n
+  unfolding valueFrom
   no-more h = rw (drop-of-length-le xs h)
 
 -- 23 * 10 ^ i is above what i bytes, digits or not, can say: a byte adds at most 255 - 48
@@ -37,7 +37,7 @@ below-seven n i h k = omega (arith, pow-le-pow-right {n = 10} (lit< tt) k)
 module _ (n : ℕ) (xs : List ℕ) (i : ℕ) where
   pub digit-more : i < length xs → isDigit (getD xs i 0) ≡ true → numeralFrom n (drop i xs) ≡ numeralFrom (n * 10 + (getD xs i 0 - 48)) (drop (i + 1) xs)
   unfolding numeralFrom
-  digit-more h d = rw (on isDigit xs i h d, more n xs i h)
+  digit-more h d = rw (on isDigit xs i h d, more 10 48 n xs i h)
 
   pub no-digit : i < length xs → isDigit (getD xs i 0) ≡ false → numeralFrom n (drop i xs) ≡ Other
   unfolding numeralFrom
@@ -45,7 +45,7 @@ module _ (n : ℕ) (xs : List ℕ) (i : ℕ) where
 
   pub digits-end : length xs ≤ i → numeralFrom n (drop i xs) ≡ Digits n
   unfolding numeralFrom
-  digits-end h = rw (end isDigit xs i h, no-more n xs i h)
+  digits-end h = rw (end isDigit xs i h, no-more 10 48 n xs i h)
 
 -- a test of the number that some bytes say, where they are digits and where they are not
 module _ (p : ℕ → Bool) (t : List ℕ) (m : Numeral) (e : m ≡ numeral t) where

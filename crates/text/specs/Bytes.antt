@@ -36,13 +36,21 @@ blank bs = every (between 32 32) bs
 abbrev pub digits : List ℕ → Bool
 digits bs = every isDigit bs
 
--- the number that the digits say, after those that said n
-unfoldable pub numberFrom : ℕ → List ℕ → ℕ
-numberFrom n [] = n
-numberFrom n (b ∷ bs) = numberFrom (n * 10 + (b - 48)) bs
+-- the number that bytes say in a base whose nought is the byte `nought`, after those that said n
+unfoldable pub valueFrom : ℕ → ℕ → ℕ → List ℕ → ℕ
+valueFrom base nought n [] = n
+valueFrom base nought n (b ∷ bs) = valueFrom base nought (n * base + (b - nought)) bs
+
+-- the number that digits say, after those that said n
+abbrev pub numberFrom : ℕ → List ℕ → ℕ
+numberFrom n bs = valueFrom 10 48 n bs
 
 abbrev pub number : List ℕ → ℕ
 number bs = numberFrom 0 bs
+
+-- the bytes of some columns as one number, the first byte highest
+abbrev pub word : List ℕ → ℕ
+word bs = valueFrom 256 0 0 bs
 
 -- how many bytes at the front pass the test p
 unfoldable pub run : (ℕ → Bool) → List ℕ → ℕ

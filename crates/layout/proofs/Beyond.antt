@@ -6,18 +6,23 @@ use Prim.Native.Nat.{ℕ, zero, suc, _+_, _<_, _≤_}
 use native.Mathlib.Omega.{arith}
 use borrow.Author.Tests.{ne-eqb}
 use lib.Dec.{lit≤}
-use lib.ListN.{length, take, drop, drop-of-length-le}
+use lib.ListN.{length, take, drop, drop-of-length-le, List·getD-eq-default}
 use Rattle.text.specs.Bytes.{every}
 use Rattle.layout.specs.declared.Edition.{Edition}
 use Rattle.layout.specs.declared.Edition.the-variants.{One, Three, Four}
 use Rattle.layout.specs.Editions.{lengthOf, lastOf}
-use Rattle.layout.specs.Page.{element, startOf, widthOf, textOf, legal}
+use Rattle.layout.specs.Page.{page, none, elements, element, startOf, widthOf, textOf, legal}
 use Rattle.layout.proofs.Columns.{start-rises, filled}
 
 -- there is nothing to take of nothing
 pub take-none : (n : ℕ) → _≡_ {A = List ℕ} [] (take n [])
 take-none zero = refl
 take-none (suc n) = refl
+
+-- past element 101 there is none
+pub text-past : (xs : List ℕ) (e : ℕ) → 101 < e → [] ≡ textOf e xs
+unfolding textOf element page
+text-past xs e h = rw (List·getD-eq-default elements none h)
 
 last-above : (ed : Edition) → 85 ≤ lastOf ed
 last-above One = lit≤ tt

@@ -47,6 +47,9 @@ filled One = refl
 filled Three = refl
 filled Four = refl
 
+pub start-below : (e : ℕ) → e ≤ 102 → startOf e ≤ 159
+start-below e h = omega (arith, start-rises e 102 h, filled Four)
+
 -- every element is at most seven columns wide, which antt computes over the page
 abbrev narrow-all : List Element → Bool
 narrow-all [] = true

@@ -5,3 +5,4 @@ pub mod Elements
 pub mod Beyond
 pub mod RefusalLaws
 pub mod Demand2Columns
+pub mod Parts

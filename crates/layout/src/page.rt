@@ -8,12 +8,12 @@ use text::Texts;
 ghost use mathlib.Core.Path.{_≡_};
 ghost use mathlib.Core.Bool.{_&&_, _||_};
 ghost use Prim.Native.Nat.{_≤_, _-_};
-ghost use lib.ListN.{length};
+ghost use lib.ListN.{length, take, drop};
 ghost use Rattle.text.specs.Bytes.{blank};
 ghost use Rattle.text.specs.Texts.{allows};
 ghost use Rattle.text.specs.First.{firstOf};
 ghost use Rattle.layout.specs.Editions.{lengthOf, lastOf};
-ghost use Rattle.layout.specs.Page.{mayBeBlank, legal};
+ghost use Rattle.layout.specs.Page.{startOf, textOf, mayBeBlank, legal};
 ghost use Rattle.layout.specs.Letters.{lettered, WidthRow, LetterRow};
 
 // The widths, a digit for each.
@@ -89,6 +89,20 @@ fn texts_of(letter: u8) -> Texts
     }
 }
 
+// As many of the columns from `start` on as the record has, at most `width`.
+pub fn columns(line: &[u8], start: usize, width: usize) -> &[u8]
+    ensures { λ r. ⌜ now r ≡ take width (drop start (now (line .entry))) ⌝ }
+    ensures { λ r. ⌜ length (now r) ≤ width ⌝ }
+{
+    if line.len() <= start {
+        return &line[..0];
+    }
+    if line.len() - start <= width {
+        return &line[start..];
+    }
+    &line[start..start + width]
+}
+
 // The number that a digit says.
 fn digit(b: u8) -> usize
     ensures { λ r. ⌜ r ≡ b - 48 ⌝ }
@@ -136,4 +150,31 @@ pub fn first_illegal(edition: Edition, line: &[u8]) -> usize
         e += 1;
     }
     0
+}
+
+// How many columns stand before element e.
+fn start_of(e: usize) -> usize
+    requires { ⌜ e ≤ 101 ⌝ }
+    ensures { λ r. ⌜ r ≡ startOf e ⌝ }
+{
+    let widths = widths();
+    let mut at = 0;
+    let mut k = 0;
+    while k < e {
+        at += digit(widths[k]);
+        k += 1;
+    }
+    at
+}
+
+// The characters of element e: as many of its columns as the record has.
+pub fn text_of(line: &[u8], e: usize) -> &[u8]
+    ensures { λ r. ⌜ now r ≡ textOf e (now (line .entry)) ⌝ }
+    ensures { λ r. ⌜ length (now r) ≤ 7 ⌝ }
+{
+    if 101 < e {
+        return &line[..0];
+    }
+    let widths = widths();
+    columns(line, start_of(e), digit(widths[e]))
 }

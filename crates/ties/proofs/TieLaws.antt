@@ -1,34 +1,17 @@
 -- What each way through a tie's code says of the tie. Assumes nothing.
 use mathlib.Core.Path.{_≡_, refl, sym, ap, _∙_}
 use mathlib.Core.Bool.{Bool, true, false, not, _&&_, Bool·beq, false≢true}
-use mathlib.Core.List.{List, []}
-use Prim.Native.Nat.{ℕ, zero, suc, _+_, _-_, _≤_, _<_}
-use native.Mathlib.Nat.{add-sub-cancel-left, min-le-left, eq-zero-or-pos}
+use mathlib.Core.List.{List}
+use Prim.Native.Nat.{ℕ, suc, _≤_, _<_}
+use native.Mathlib.Nat.{eq-zero-or-pos}
 use native.Mathlib.Omega.{arith}
 use lib.Dec.{eqb}
 use mathlib.Core.Logic.{⊎-elim}
-use lib.ListN.{length, List·getD-eq-default, take, drop, drop-of-length-le, length-take, length-drop}
-use lib.Seq.{take-all}
+use lib.ListN.{List·getD-eq-default}
 use Rattle.text.specs.Bytes.{number}
 use Rattle.text.proofs.Ways.{and-stops, and-goes-on}
-use Rattle.layout.proofs.Beyond.{take-none}
 use Rattle.ties.specs.Ties.{there, placeTie, octantFits, negative, signTie, lastDigit, digitTie, ties, tie}
 use Rattle.layout.specs.declared.Edition.{Edition}
-
--- the columns of a record: past its end, up to its end, and within it
-module _ (xs : List ℕ) (start width : ℕ) where
-  pub past : length xs ≤ start → [] ≡ take width (drop start xs)
-  past h = rw (drop-of-length-le xs h) (take-none width)
-
-  pub to-the-end : length xs - start ≤ width → take (length xs - start) (drop start xs) ≡ take width (drop start xs)
-  to-the-end h = take-all (length xs - start) (drop start xs) (rw length-drop (omega arith)) ∙ sym (take-all width (drop start xs) (rw length-drop h))
-
-  pub inside : take (start + width - start) (drop start xs) ≡ take width (drop start xs)
-  inside = rw (add-sub-cancel-left start width)
-
--- what was taken is no more than the width
-pub at-most : (xs ts : List ℕ) (start width : ℕ) → ts ≡ take width (drop start xs) → length ts ≤ width
-at-most xs ts start width e = rw (e, length-take) (min-le-left width (length (drop start xs)))
 
 pub same-true : (a b : Bool) → a ≡ true → b ≡ Bool·beq a b
 same-true true true e = refl

@@ -3,27 +3,14 @@
 // Each tie is a test of the texts of its elements, and `holds` hands it their columns. Columns that
 // a record does not have are taken as blank, so no tie asks how long the record is.
 use layout::Edition;
+use layout::page;
 ghost use mathlib.Core.Path.{_≡_};
 ghost use mathlib.Core.Bool.{Bool·beq, not, _&&_};
 ghost use Prim.Native.Nat.{_≤_};
 ghost use lib.Dec.{eqb};
-ghost use lib.ListN.{length, take, drop};
+ghost use lib.ListN.{length};
 ghost use Rattle.text.specs.First.{firstOf};
 ghost use Rattle.ties.specs.Ties.{there, placeTie, octantFits, octantTie, negative, signTie, lastDigit, digitTie, windTie, tie};
-
-// As many of the columns from `start` on as the record has, at most `width`.
-fn columns(line: &[u8], start: usize, width: usize) -> &[u8]
-    ensures { λ r. ⌜ now r ≡ take width (drop start (now (line .entry))) ⌝ }
-    ensures { λ r. ⌜ length (now r) ≤ width ⌝ }
-{
-    if line.len() <= start {
-        return &line[..0];
-    }
-    if line.len() - start <= width {
-        return &line[start..];
-    }
-    &line[start..start + width]
-}
 
 fn is_there(text: &[u8]) -> bool
     ensures { λ r. ⌜ r ≡ there (now (text .entry)) ⌝ }
@@ -141,24 +128,28 @@ fn holds(edition: Edition, line: &[u8], k: usize) -> bool
 {
     match k {
         1 => place_tie(
-            columns(line, 11, 1),
-            columns(line, 12, 3),
-            columns(line, 15, 4),
+            page::columns(line, 11, 1),
+            page::columns(line, 12, 3),
+            page::columns(line, 15, 4),
         ),
-        2 => octant_tie(edition, columns(line, 11, 1), columns(line, 15, 4)),
-        3 => sign_tie(columns(line, 29, 1), columns(line, 30, 3)),
-        4 => sign_tie(columns(line, 33, 1), columns(line, 34, 3)),
-        5 => sign_tie(columns(line, 49, 1), columns(line, 50, 3)),
-        6 => sign_tie(columns(line, 88, 1), columns(line, 89, 3)),
+        2 => octant_tie(
+            edition,
+            page::columns(line, 11, 1),
+            page::columns(line, 15, 4),
+        ),
+        3 => sign_tie(page::columns(line, 29, 1), page::columns(line, 30, 3)),
+        4 => sign_tie(page::columns(line, 33, 1), page::columns(line, 34, 3)),
+        5 => sign_tie(page::columns(line, 49, 1), page::columns(line, 50, 3)),
+        6 => sign_tie(page::columns(line, 88, 1), page::columns(line, 89, 3)),
         7 => digit_tie(
-            text::number_of(columns(line, 0, 1)),
-            text::number_of(columns(line, 30, 3)),
-            text::number_of(columns(line, 34, 3)),
-            text::number_of(columns(line, 50, 3)),
-            text::number_of(columns(line, 89, 3)),
+            text::number_of(page::columns(line, 0, 1)),
+            text::number_of(page::columns(line, 30, 3)),
+            text::number_of(page::columns(line, 34, 3)),
+            text::number_of(page::columns(line, 50, 3)),
+            text::number_of(page::columns(line, 89, 3)),
         ),
-        8 => wind_tie(columns(line, 27, 2), columns(line, 26, 1)),
-        9 => wind_tie(columns(line, 148, 3), columns(line, 26, 1)),
+        8 => wind_tie(page::columns(line, 27, 2), page::columns(line, 26, 1)),
+        9 => wind_tie(page::columns(line, 148, 3), page::columns(line, 26, 1)),
         _ => true,
     }
 }

@@ -1,12 +1,12 @@
--- `ties::columns` meets its contract. Assumes nothing.
+-- `layout::page::columns` meets its contract. Assumes nothing.
 use Prim.Native.Nat.{_≤_, ℕ}
-use Rattle.ties.proofs.TieLaws.{at-most, inside, past, to-the-end}
+use Rattle.layout.proofs.Parts.{at-most, inside, past, to-the-end}
 use borrow.Author.Needs.{needs}
 use lib.ListN.{drop, length, take}
 use mathlib.Core.List.{List}
 use mathlib.Core.Path.{_≡_}
-use Rattle.ties.proofs.columns.Statement.{statement}
-use Rattle.ties.proofs.columns.Tie as tie
+use Rattle.layout.proofs.page.columns.Statement.{statement}
+use Rattle.layout.proofs.page.columns.Tie as tie
 
 with-length : (xs : List ℕ) (start width : ℕ) {ts : List ℕ} → ts ≡ take width (drop start xs) → (ts ≡ take width (drop start xs)) × (length ts ≤ width)
 with-length xs start width {ts} e = (e, at-most xs ts start width e)

@@ -1,0 +1,190 @@
+-- What each way through the code that reads says of the reading. Assumes nothing.
+use mathlib.Core.Path.{_≡_, refl, sym, ap, _∙_}
+use mathlib.Core.Bool.{Bool, true, false, not, _||_, true≢false}
+use mathlib.Core.Logic.{_⊎_, inl, inr, ⊎-elim}
+use mathlib.Core.List.{List}
+use Prim.Native.Nat.{ℕ, _+_, _-_, _%_, _≤_, _<_}
+use native.Mathlib.Omega.{arith}
+use borrow.Author.Tests.{eq-eqb, ne-eqb, le-leb, lt-leb, eqb-true}
+use lib.Dec.{leb, eqb}
+use lib.IntN.{ℤ}
+use Rattle.text.specs.Bytes.{blank, digits, number, word}
+use Rattle.text.specs.Texts.{among}
+use Rattle.layout.specs.declared.Edition.{Edition}
+use Rattle.layout.specs.declared.Refusal.the-variants.{NoElement}
+use Rattle.layout.specs.Editions.{lastOf}
+use Rattle.layout.specs.Page.{textOf}
+use Rattle.checking.specs.declared.Answer.{Answer}
+use Rattle.checking.specs.declared.Answer.the-variants.{Accepted}
+use Rattle.checking.specs.Check.{checked}
+use Rattle.reading.specs.declared.Kind.{Kind}
+use Rattle.reading.specs.declared.Kind.the-variants.{Measured}
+use Rattle.reading.specs.declared.Place.{Place}
+use Rattle.reading.specs.declared.Reading.{Reading}
+use Rattle.reading.specs.declared.Reading.the-variants.{Missing, Code, Text, Amount, At}
+use Rattle.reading.specs.Readings.{signed, alwaysText, codeOf, plain, below, kindOf, temperature, departure, south, west, east, placeOf, itemOf, readingOf}
+use Rattle.reading.specs.declared.Found.the-variants.{Reads, Unread}
+use Rattle.reading.specs.Answers.{readAfter, readOf}
+
+-- PPPP below 1000, and any other number
+module _ (e n m : ℕ) (f : m ≡ n) where
+  pub other-code : (e ≡ 20 → ⊥) → m ≡ codeOf e n
+  other-code h = f ∙ rw (ne-eqb e 20 h)
+
+  pub low-pressure : e ≡ 20 → n ≤ 999 → m + 10000 ≡ codeOf e n
+  low-pressure h l = ap (λ (k : ℕ). k + 10000) f ∙ rw (eq-eqb e 20 h, le-leb n 999 l)
+
+  pub high-pressure : e ≡ 20 → 999 < n → m ≡ codeOf e n
+  high-pressure h l = f ∙ rw (eq-eqb e 20 h, lt-leb n 999 l)
+
+-- an element by itself
+module _ (e : ℕ) (t : List ℕ) (x : Bool) (p : x ≡ blank t) where
+  pub plain-missing : x ≡ true → Missing ≡ plain e t
+  unfolding plain
+  plain-missing h = rw (← p, h)
+
+  module _ (h : x ≡ false) (y : Bool) (q : y ≡ digits t) where
+    pub plain-other : y ≡ false → (n : ℕ) → n ≡ word t → Text n ≡ plain e t
+    unfolding plain
+    plain-other k n f = rw (← p, h, ← q, k, f)
+
+    module _ (k : y ≡ true) (z : Bool) (r : z ≡ alwaysText e) where
+      pub plain-text : z ≡ true → (n : ℕ) → n ≡ word t → Text n ≡ plain e t
+      unfolding plain
+      plain-text l n f = rw (← p, h, ← q, k, ← r, l, f)
+
+      pub plain-code : z ≡ false → (n m : ℕ) → n ≡ number t → m ≡ codeOf e n → Code m ≡ plain e t
+      unfolding plain
+      plain-code l n m f g = rw (← p, h, ← q, k, ← r, l) (ap Code (g ∙ ap (codeOf e) f))
+
+-- a sign and its temperature
+module _ (s v : List ℕ) (x : Bool) (p : x ≡ blank s) where
+  pub no-sign : x ≡ true → Missing ≡ temperature s v
+  unfolding temperature
+  no-sign h = rw (← p, h)
+
+  module _ (h : x ≡ false) (y : Bool) (q : y ≡ blank v) where
+    pub no-value : y ≡ true → Missing ≡ temperature s v
+    unfolding temperature
+    no-value k = rw (← p, h, ← q, k)
+
+    pub is-temperature : y ≡ false → (n m : ℕ) (b : Bool) (z : ℤ) (k : Kind) → n ≡ number s → b ≡ below n → m ≡ number v → z ≡ signed b m → k ≡ kindOf n → Amount z k ≡ temperature s v
+    unfolding temperature
+    is-temperature l n m b z k f g i j o = rw (← p, h, ← q, l, ← f, ← i, ← g, ← j, ← o)
+
+-- element 91
+module _ (t : List ℕ) (x : Bool) (p : x ≡ blank t) where
+  pub no-departure : x ≡ true → Missing ≡ departure t
+  unfolding departure
+  no-departure h = rw (← p, h)
+
+  pub is-departure : x ≡ false → (n : ℕ) (z : ℤ) → n ≡ number t → z ≡ signed (leb 100 n) (n % 100) → Amount z Measured ≡ departure t
+  unfolding departure
+  is-departure h n z f g = rw (← p, h, ← f, ← g)
+
+-- east longitude
+module _ (w : Bool) (l m : ℕ) where
+  pub east-east : not w ≡ true → m ≡ l → m ≡ east w l
+  east-east h f = by w h
+    where
+      by : (w : Bool) → not w ≡ true → m ≡ east w l
+      by false h = f
+      by true h = absurd (true≢false (sym h))
+
+  pub east-far : not w ≡ false → 3600 ≤ l → 0 ≡ east w l
+  east-far h k = by w h
+    where
+      by : (w : Bool) → not w ≡ false → 0 ≡ east w l
+      by true h = let z : 3600 - l ≡ 0 = omega arith in rw z
+      by false h = absurd (true≢false h)
+
+  pub east-west : not w ≡ false → m ≡ (3600 - l) % 3600 → m ≡ east w l
+  east-west h f = by w h
+    where
+      by : (w : Bool) → not w ≡ false → m ≡ east w l
+      by true h = f
+      by false h = absurd (true≢false h)
+
+-- column 12, latitude and longitude
+module _ (ed : Edition) (q la lo : List ℕ) (x : Bool) (p : x ≡ blank q) where
+  pub no-digit : x ≡ true → Missing ≡ placeOf ed q la lo
+  unfolding placeOf
+  no-digit h = rw (← p, h)
+
+  module _ (h : x ≡ false) (y : Bool) (r : y ≡ blank la) where
+    pub no-latitude : y ≡ true → Missing ≡ placeOf ed q la lo
+    unfolding placeOf
+    no-latitude k = rw (← p, h, ← r, k)
+
+    module _ (k : y ≡ false) (z : Bool) (s : z ≡ blank lo) where
+      pub no-longitude : z ≡ true → Missing ≡ placeOf ed q la lo
+      unfolding placeOf
+      no-longitude l = rw (← p, h, ← r, k, ← s, l)
+
+      pub is-place : z ≡ false → (d m n : ℕ) (u w : Bool) (a : ℤ) (o d′ : ℕ) → d ≡ number q → u ≡ south ed d → w ≡ west ed d → m ≡ number la → a ≡ signed u m → n ≡ number lo → o ≡ east w n → d′ ≡ d →
+          At (record { latitude = a; longitude = o; digit = d′ }) ≡ placeOf ed q la lo
+      unfolding placeOf
+      is-place l d m n u w a o d′ e f g i j t v b = rw (← p, h, ← r, k, ← s, l, ← e, ← i, ← t, ← f, ← g, ← j, ← v, b)
+
+-- a number that is one of four is no more than the greatest of them
+either-half : (x y : Bool) → (x || y) ≡ true → (x ≡ true) ⊎ (y ≡ true)
+either-half true y h = inl refl
+either-half false y h = inr h
+
+pub among-below : (k a b c d n : ℕ) → a ≤ k → b ≤ k → c ≤ k → d ≤ k → among a b c d n ≡ true → n ≤ k
+among-below k a b c d n p q r s h =
+    ⊎-elim
+    (λ x. ⊎-elim
+    (λ y. ⊎-elim (λ z. rw (eqb-true n a z) p) (λ z. rw (eqb-true n b z) q) (either-half _ _ y))
+    (λ y. rw (eqb-true n c y) r)
+    (either-half _ _ x))
+    (λ x. rw (eqb-true n d x) s)
+    (either-half _ _ h)
+
+-- what the element reads as that shares its reading with no lower one, by the kind of element
+module _ (ed : Edition) (xs : List ℕ) (e : ℕ) where
+  pub item-place : e ≡ 6 → itemOf ed xs e ≡ placeOf ed (textOf 6 xs) (textOf 7 xs) (textOf 8 xs)
+  unfolding itemOf
+  item-place h = rw (eq-eqb e 6 h)
+
+  module _ (p : e ≡ 6 → ⊥) where
+    pub item-temperature : among 16 18 28 50 e ≡ true → itemOf ed xs e ≡ temperature (textOf e xs) (textOf (e + 1) xs)
+    unfolding itemOf
+    item-temperature h = rw (ne-eqb e 6 p, h)
+
+    module _ (q : among 16 18 28 50 e ≡ false) where
+      pub item-departure : e ≡ 91 → itemOf ed xs e ≡ departure (textOf 91 xs)
+      unfolding itemOf
+      item-departure h = rw (ne-eqb e 6 p, q, eq-eqb e 91 h)
+
+      pub item-plain : (e ≡ 91 → ⊥) → itemOf ed xs e ≡ plain e (textOf e xs)
+      unfolding itemOf
+      item-plain h = rw (ne-eqb e 6 p, q, ne-eqb e 91 h)
+
+-- a reading of texts, each of which is known
+module _ {r : Reading} where
+  pub from-one : (f : List ℕ → Reading) {a a′ : List ℕ} → r ≡ f a → a ≡ a′ → r ≡ f a′
+  from-one f e p = e ∙ ap f p
+
+  pub from-two : (f : List ℕ → List ℕ → Reading) {a a′ b b′ : List ℕ} → r ≡ f a b → a ≡ a′ → b ≡ b′ → r ≡ f a′ b′
+  from-two f {a} {a′} {b} {b′} e p q = e ∙ ap (λ (x : List ℕ). f x b) p ∙ ap (f a′) q
+
+  pub from-three : (f : List ℕ → List ℕ → List ℕ → Reading) {a a′ b b′ c c′ : List ℕ} → r ≡ f a b c → a ≡ a′ → b ≡ b′ → c ≡ c′ → r ≡ f a′ b′ c′
+  from-three f {a} {a′} {b} {b′} {c} {c′} e p q s = from-two (λ x y. f x y c′) (e ∙ ap (f a b) s) p q
+
+-- a number of no element of the edition, and one of its elements
+module _ (ed : Edition) (xs : List ℕ) (e : ℕ) where
+  pub none-below : e < 1 → Unread NoElement ≡ readAfter (Accepted ed) xs e
+  unfolding readAfter
+  none-below h = rw (lt-leb 1 e h)
+
+  pub none-above : 1 ≤ e → lastOf ed < e → Unread NoElement ≡ readAfter (Accepted ed) xs e
+  unfolding readAfter
+  none-above h k = rw (le-leb 1 e h, lt-leb e (lastOf ed) k)
+
+  pub one-read : 1 ≤ e → e ≤ lastOf ed → (r : Reading) → r ≡ readingOf ed xs e → Reads r ≡ readAfter (Accepted ed) xs e
+  unfolding readAfter
+  one-read h k r f = rw (le-leb 1 e h, le-leb e (lastOf ed) k, f)
+
+pub after-answer : {a b : Answer} (xs : List ℕ) (e : ℕ) → a ≡ checked xs → a ≡ b → readAfter b xs e ≡ readOf xs e
+after-answer xs e f g = ap (λ (q : Answer). readAfter q xs e) (sym g ∙ f)

@@ -1,0 +1,27 @@
+-- `reading::departure_of` meets its contract. Assumes nothing.
+use Rattle.reading.proofs.ReadingLaws.{is-departure, no-departure}
+use borrow.Author.Needs.{needs}
+use mathlib.Core.Path.{_∙_}
+use mir.Facts.{toZ-ofZ}
+use mir.Syntax.{w64}
+use Rattle.reading.proofs.departure_of.Statement.{statement}
+use Rattle.reading.proofs.departure_of.Tie as tie
+
+is-blank-requires : tie.Need-is-blank-requires
+is-blank-requires c κs = search needs
+
+returns : tie.Need-returns
+returns c = no-departure _ _ (c .before .is-blank .ensures) (c .if1 .taken)
+
+number-of-requires : tie.Need-number-of-requires
+number-of-requires c κs = search needs
+
+signed-of-requires : tie.Need-signed-of-requires
+signed-of-requires c κs = search needs
+
+returns-2 : tie.Need-returns-2
+returns-2 c = is-departure _ _ (c .before .before .before .is-blank .ensures) (c .before .before .if1 .left) _ _ (c .before .number-of .ensures) (toZ-ofZ {w = w64} {z = c .signed-of .result} (record { sfits = c .signed-of .ok }) ∙ c .signed-of .ensures)
+
+pub departure-of-spec : {M : Type 1} → statement M
+departure-of-spec =
+    tie.close (tie.spec is-blank-requires returns number-of-requires signed-of-requires returns-2)

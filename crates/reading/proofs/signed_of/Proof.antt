@@ -1,0 +1,25 @@
+-- `reading::signed_of` meets its contract. Assumes nothing.
+use Rattle.reading.proofs.Signs.{minus-fits, minus-is, plus-is}
+use borrow.Author.Needs.{needs}
+use mir.Syntax.{w64}
+use native.Mathlib.Omega.{arith}
+use Rattle.reading.proofs.signed_of.Statement.{statement}
+use Rattle.reading.proofs.signed_of.Tie as tie
+
+cast-result : tie.Need-cast-result
+cast-result c = search needs
+
+sub-result : tie.Need-sub-result
+sub-result c = minus-fits w64 (c .before .args .n) (omega arith)
+
+cast-result-2 : tie.Need-cast-result-2
+cast-result-2 c = search needs
+
+returns : tie.Need-returns
+returns c = minus-is w64 (c .before .args .n) (omega arith) _ (c .if1 .taken)
+
+returns-2 : tie.Need-returns-2
+returns-2 c = plus-is w64 (c .before .args .n) (omega arith) _ (c .if1 .left)
+
+pub signed-of-spec : {M : Type 1} → statement M
+signed-of-spec = tie.close (tie.spec cast-result sub-result cast-result-2 returns returns-2)

@@ -1,0 +1,86 @@
+-- What the text of an element reads as, by the kind of element. Assumes nothing.
+use Prim.Native.Nat.{ℕ, _+_, _-_, _%_}
+use mathlib.Core.List.{List}
+use mathlib.Core.Bool.{Bool, cond, not, _&&_, _||_}
+use lib.Dec.{eqb, leb}
+use lib.IntN.{ℤ, pos, negℤ}
+use Rattle.text.specs.Bytes.{blank, digits, number, word}
+use Rattle.text.specs.Texts.{among}
+use Rattle.layout.specs.declared.Edition.{Edition}
+use Rattle.layout.specs.declared.Edition.the-variants.{One, Three, Four}
+use Rattle.layout.specs.Page.{textOf}
+use Rattle.reading.specs.declared.Kind.{Kind}
+use Rattle.reading.specs.declared.Kind.the-variants.{Measured, Computed, IcedMeasured, IcedComputed}
+use Rattle.reading.specs.declared.Place.{Place}
+use Rattle.reading.specs.declared.Reading.{Reading}
+use Rattle.reading.specs.declared.Reading.the-variants.{Missing, Code, Text, Amount, At}
+
+-- a number with its sign
+abbrev pub signed : Bool → ℕ → ℤ
+signed below n = cond below (negℤ (pos n)) (pos n)
+
+-- call sign, country and column 81 always read as a text
+abbrev pub alwaysText : ℕ → Bool
+alwaysText e = eqb e 42 || eqb e 43 || eqb e 44
+
+-- the leading 1 of PPPP is omitted below 1000
+abbrev pub codeOf : ℕ → ℕ → ℕ
+codeOf e n = cond (eqb e 20 && leb n 999) (n + 10000) n
+
+-- an element by itself: digits read as a code, anything else as a text, the bytes of the columns as one number
+unfoldable pub plain : ℕ → List ℕ → Reading
+plain e t = cond (blank t) Missing (cond (digits t && not (alwaysText e)) (Code (codeOf e (number t))) (Text (word t)))
+
+-- a sign and its temperature: signs 1, 6 give a negative amount, iced (2, 7) zero or below
+abbrev pub below : ℕ → Bool
+below sign = among 1 2 6 7 sign
+
+abbrev pub kindOf : ℕ → Kind
+kindOf sign = cond (eqb sign 2) IcedMeasured (cond (eqb sign 7) IcedComputed (cond (leb 5 sign) Computed Measured))
+
+unfoldable pub temperature : List ℕ → List ℕ → Reading
+temperature sign value = cond (blank sign || blank value) Missing (Amount (signed (below (number sign)) (number value)) (kindOf (number sign)))
+
+-- element 91: a sign and two digits, in metres
+unfoldable pub departure : List ℕ → Reading
+departure t = cond (blank t) Missing (Amount (signed (leb 100 (number t)) (number t % 100)) Measured)
+
+-- the hemispheres that a digit gives: octants in edition 1, quadrants in the others
+unfoldable pub south : Edition → ℕ → Bool
+south One digit = leb 5 digit
+south Three digit = among 3 5 3 5 digit
+south Four digit = among 3 5 3 5 digit
+
+unfoldable pub west : Edition → ℕ → Bool
+west One digit = among 0 1 5 6 digit
+west Three digit = among 5 7 5 7 digit
+west Four digit = among 5 7 5 7 digit
+
+-- east longitude, 0..3599; 180.0 W is 180.0 E
+abbrev pub east : Bool → ℕ → ℕ
+east isWest longitude = cond isWest ((3600 - longitude) % 3600) longitude
+
+-- column 12, latitude, longitude
+unfoldable pub placeOf : Edition → List ℕ → List ℕ → List ℕ → Reading
+placeOf ed digit latitude longitude =
+    cond (blank digit || blank latitude || blank longitude) Missing
+    (At (record {
+      latitude = signed (south ed (number digit)) (number latitude);
+      longitude = east (west ed (number digit)) (number longitude);
+      digit = number digit;
+    }))
+
+-- the lowest element of those that share a reading: 6 to 8 the place, a sign and its temperature the amount
+abbrev pub lead : ℕ → ℕ
+lead e = cond (among 7 8 7 8 e) 6 (cond (among 17 19 29 51 e) (e - 1) e)
+
+-- what the element reads as that shares its reading with no lower one
+unfoldable pub itemOf : Edition → List ℕ → ℕ → Reading
+itemOf ed xs e =
+    cond (eqb e 6) (placeOf ed (textOf 6 xs) (textOf 7 xs) (textOf 8 xs))
+    (cond (among 16 18 28 50 e) (temperature (textOf e xs) (textOf (e + 1) xs))
+    (cond (eqb e 91) (departure (textOf 91 xs))
+    (plain e (textOf e xs))))
+
+abbrev pub readingOf : Edition → List ℕ → ℕ → Reading
+readingOf ed xs e = itemOf ed xs (lead e)

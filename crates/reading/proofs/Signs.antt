@@ -1,15 +1,18 @@
 -- A number of a signed width made from a natural below half the width's power: itself, and its negative. Assumes nothing.
 use mathlib.Core.Path.{_≡_, refl, sym, ap, _∙_, subst}
-use mathlib.Core.Bool.{Bool, true, false}
-use Prim.Native.Nat.{ℕ, zero, suc, _^_, _<_, _≤_}
+use mathlib.Core.Bool.{Bool, true, false, true≢false}
+use Prim.Native.Nat.{ℕ, zero, suc, _+_, _^_, _<_, _≤_, zero-le}
 use native.Mathlib.Nat.{lt-of-le-of-lt}
 use native.Mathlib.Omega.{arith}
-use lib.IntN.{ℤ, pos, negsuc, negℤ, _-ℤ_, +ℤ-idl}
-use lib.Signed.{mag}
-use mir.Syntax.{Width}
-use mir.Val.{hbits, SFits, toZ, ofZ}
+use native.Mathlib.Numerals.{add-one}
+use borrow.Author.Tests.{le-leb, le-ltb}
+use lib.Dec.{T, lit<}
+use lib.IntN.{ℤ, pos, negsuc, negℤ, sucℤ, natAbs, _+ℤ_, _-ℤ_, +ℤ-idl, +ℤ-one}
+use lib.Signed.{mag, ltZ, leZ, nonNeg}
+use mir.Syntax.{Width, w64}
+use mir.Val.{hbits, Fits, SFits, toZ, ofZ}
 use mir.Facts.{toZ-ofZ, toZ-pos}
-use Rattle.reading.specs.Readings.{signed}
+use Rattle.reading.specs.Readings.{signed, negative}
 
 mag-neg : (n : ℕ) → mag (negℤ (pos n)) ≤ n
 mag-neg zero = omega arith
@@ -31,3 +34,77 @@ module _ (w : Width) (n : ℕ) (h : n < 2 ^ hbits w) where
 
   pub plus-is : (below : Bool) → below ≡ false → toZ w n ≡ signed below n
   plus-is below e = toZ-pos w h ∙ rw e
+
+-- Tests and opposites at 64 bits: a is what the machine's bits of a say, and one above a number below zero has an opposite.
+abbrev back : ℤ → ℤ
+back z = toZ w64 (ofZ w64 z)
+
+module _ (a : ℤ) (f : SFits w64 a) where
+  pub itself : back a ≡ a
+  itself = toZ-ofZ f
+
+  pub below-zero : ltZ (back a) (pos 0) ≡ negative a
+  below-zero = ap (λ (z : ℤ). ltZ z (pos 0)) itself ∙ by a
+    where
+      by : (z : ℤ) → ltZ z (pos 0) ≡ negative z
+      by (pos n) = le-ltb n 0 zero-le
+      by (negsuc n) = refl
+
+  -- a number that is not below zero
+  pub up-fits : leZ (pos 0) (back a) ≡ true → T (nonNeg (back a)) × Fits w64 (natAbs (back a))
+  up-fits h = rw itself (by a f (rw itself at h))
+    where
+      by : (z : ℤ) → SFits w64 z → leZ (pos 0) z ≡ true → T (nonNeg z) × Fits w64 (natAbs z)
+      by (pos n) g k = (tt, record { fits = omega (arith, g .sfits) })
+      by (negsuc n) g k = absurd (true≢false (sym k))
+
+  pub up-is : natAbs (back a) ≡ natAbs a
+  up-is = ap natAbs itself
+
+-- a number below zero, one above it, and the opposite of that
+module _ (n : ℕ) (f : SFits w64 (negsuc n)) where
+  above : back (negsuc n) +ℤ pos 1 ≡ sucℤ (negsuc n)
+  above = ap (λ (z : ℤ). z +ℤ pos 1) (itself (negsuc n) f) ∙ +ℤ-one (negsuc n)
+
+  above-fits : SFits w64 (sucℤ (negsuc n))
+  above-fits = by n f
+    where
+      by : (n : ℕ) → SFits w64 (negsuc n) → SFits w64 (sucℤ (negsuc n))
+      by zero g = record { sfits = lit< tt }
+      by (suc n) g = record { sfits = omega (arith, g .sfits) }
+
+  opposite : pos 0 -ℤ back (back (negsuc n) +ℤ pos 1) ≡ pos n
+  opposite = ap (λ (z : ℤ). pos 0 -ℤ back z) above ∙ ap (λ (z : ℤ). pos 0 -ℤ z) (itself (sucℤ (negsuc n)) above-fits) ∙ +ℤ-idl (negℤ (sucℤ (negsuc n))) ∙ by n
+    where
+      by : (n : ℕ) → negℤ (sucℤ (negsuc n)) ≡ pos n
+      by zero = refl
+      by (suc n) = refl
+
+  small : SFits w64 (pos n)
+  small = record { sfits = f .sfits }
+
+-- what the code asks of a number that is below zero
+abbrev turned : ℤ → ℤ
+turned a = pos 0 -ℤ back (back a +ℤ pos 1)
+
+pub record Turned (a : ℤ) : Type 0 where
+  pub added : SFits w64 (back a +ℤ pos 1)
+  pub subtracted : SFits w64 (turned a)
+  pub cast : T (nonNeg (back (turned a))) × Fits w64 (natAbs (back (turned a)))
+  pub more : Fits w64 (natAbs (back (turned a)) + 1)
+  pub is : natAbs (back (turned a)) + 1 ≡ natAbs a
+
+pub down : (a : ℤ) → SFits w64 a → leZ (pos 0) (back a) ≡ false → Turned a
+down a f h = by a f (rw (itself a f) at h)
+  where
+    by : (z : ℤ) → SFits w64 z → leZ (pos 0) z ≡ false → Turned z
+    by (pos n) g k = absurd (true≢false (sym (le-leb 0 n zero-le) ∙ k))
+    by (negsuc n) g k =
+        let t : back (turned (negsuc n)) ≡ pos n = ap back (opposite n g) ∙ itself (pos n) (small n g) in
+        record {
+          added = rw (above n g) (above-fits n g);
+          subtracted = rw (opposite n g) (small n g);
+          cast = rw t (tt, record { fits = omega (arith, g .sfits) });
+          more = rw t (record { fits = omega (arith, g .sfits) });
+          is = rw t (add-one n);
+        }

@@ -1,9 +1,9 @@
 -- What the text of an element reads as, by the kind of element. Assumes nothing.
 use Prim.Native.Nat.{ℕ, _+_, _-_, _%_}
 use mathlib.Core.List.{List}
-use mathlib.Core.Bool.{Bool, cond, not, _&&_, _||_}
+use mathlib.Core.Bool.{Bool, true, false, cond, not, _&&_, _||_}
 use lib.Dec.{eqb, leb}
-use lib.IntN.{ℤ, pos, negℤ}
+use lib.IntN.{ℤ, pos, negsuc, negℤ}
 use Rattle.text.specs.Bytes.{blank, digits, number, word}
 use Rattle.text.specs.Texts.{among}
 use Rattle.layout.specs.declared.Edition.{Edition}
@@ -18,6 +18,10 @@ use Rattle.reading.specs.declared.Reading.the-variants.{Missing, Code, T
 -- a number with its sign
 abbrev pub signed : Bool → ℕ → ℤ
 signed below n = cond below (negℤ (pos n)) (pos n)
+
+abbrev pub negative : ℤ → Bool
+negative (pos n) = false
+negative (negsuc n) = true
 
 -- call sign, country and column 81 always read as a text
 abbrev pub alwaysText : ℕ → Bool

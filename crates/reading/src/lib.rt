@@ -9,9 +9,10 @@ use layout::page;
 ghost use mathlib.Core.Path.{_≡_};
 ghost use mathlib.Core.Bool.{true};
 ghost use Prim.Native.Nat.{_≤_, _+_};
+ghost use lib.IntN.{natAbs};
 ghost use lib.ListN.{length};
 ghost use Rattle.text.specs.Texts.{among};
-ghost use Rattle.reading.specs.Readings.{signed, alwaysText, codeOf, plain, below, kindOf, temperature, departure, south, west, east, placeOf, lead, itemOf, readingOf};
+ghost use Rattle.reading.specs.Readings.{signed, negative, alwaysText, codeOf, plain, below, kindOf, temperature, departure, south, west, east, placeOf, lead, itemOf, readingOf};
 ghost use Rattle.reading.specs.Answers.{readAfter, readOf};
 
 // How an amount came about.
@@ -287,4 +288,23 @@ pub fn read(line: &[u8], element: u64) -> Found
         Answer::Accepted(edition) => read_in(edition, line, element),
         Answer::Refused(refusal) => Found::Unread(refusal),
     }
+}
+
+// Is the amount below zero?
+pub fn is_negative(a: i64) -> bool
+    ensures { λ r. ⌜ r ≡ negative a ⌝ }
+{
+    a < 0
+}
+
+// How far the amount is from zero. The lowest number of all has no opposite, so one is added before the
+// sign is turned and once more after.
+pub fn magnitude(a: i64) -> u64
+    ensures { λ r. ⌜ r ≡ natAbs a ⌝ }
+{
+    if 0 <= a {
+        return a as u64;
+    }
+    let above = -(a + 1);
+    (above as u64) + 1
 }

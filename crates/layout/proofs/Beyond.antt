@@ -24,6 +24,10 @@ pub text-past : (xs : List ℕ) (e : ℕ) → 101 < e → [] ≡ textOf e xs
 unfolding textOf element page
 text-past xs e h = rw (List·getD-eq-default elements none h)
 
+pub width-past : (e : ℕ) → 101 < e → 0 ≡ widthOf e
+unfolding element page
+width-past e h = rw (List·getD-eq-default elements none h)
+
 last-above : (ed : Edition) → 85 ≤ lastOf ed
 last-above One = lit≤ tt
 last-above Three = lit≤ tt

@@ -57,3 +57,8 @@ pub same-place : (ed : Edition) (ls xs : List ℕ) → LetterRow ed ls → (last
     firstOf last (byLetters ls xs) ≡ firstOf (lastOf ed) (legal ed xs)
 unfolding byLetters legal
 same-place ed ls xs l last n = same-first (byLetters ls xs) (legal ed xs) (λ e. rw (texts-at ed ls l e)) 1 last ∙ ap (firstFrom (legal ed xs) 1) n
+
+-- the test of one element by the letter of its row
+pub legal-of : (ed : Edition) (xs ls : List ℕ) (e : ℕ) → LetterRow ed ls → (t : List ℕ) → t ≡ textOf e xs → (r : Bool) → r ≡ ((mayBeBlank e && blank t) || allows (lettered (getD ls e 0)) t) → r ≡ legal ed xs e
+unfolding legal
+legal-of ed xs ls e l t f r g = g ∙ rw (texts-at ed ls l e, f)

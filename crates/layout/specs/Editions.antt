@@ -11,6 +11,10 @@ use Rattle.layout.specs.declared.Named.the-variants.{Known, Unknown}
 abbrev pub editionOf : ℕ → Named
 editionOf b = cond (eqb b 49) (Known One) (cond (eqb b 51) (Known Three) (cond (eqb b 52) (Known Four) Unknown))
 
+-- the edition that is asked for by its number: 1, 3, 4, and no other
+abbrev pub asked : ℕ → Named
+asked n = cond (eqb n 1) (Known One) (cond (eqb n 3) (Known Three) (cond (eqb n 4) (Known Four) Unknown))
+
 -- each edition has a length of its own
 abbrev pub lengthOf : Edition → ℕ
 lengthOf One = 131

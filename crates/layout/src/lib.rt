@@ -5,7 +5,7 @@
 pub mod page;
 
 ghost use mathlib.Core.Path.{_≡_};
-ghost use Rattle.layout.specs.Editions.{editionOf, lengthOf, lastOf};
+ghost use Rattle.layout.specs.Editions.{editionOf, asked, lengthOf, lastOf};
 ghost use Rattle.layout.specs.Refusals.{numberOf, placeOf};
 
 pub enum Edition {
@@ -42,6 +42,18 @@ impl Edition {
             b'1' => Named::Known(Edition::One),
             b'3' => Named::Known(Edition::Three),
             b'4' => Named::Known(Edition::Four),
+            _ => Named::Unknown,
+        }
+    }
+
+    // The edition that is asked for by its number.
+    pub fn of_number(n: u64) -> Named
+        ensures { λ r. ⌜ r ≡ asked n ⌝ }
+    {
+        match n {
+            1 => Named::Known(Edition::One),
+            3 => Named::Known(Edition::Three),
+            4 => Named::Known(Edition::Four),
             _ => Named::Unknown,
         }
     }

@@ -13,7 +13,7 @@ ghost use Rattle.text.specs.Bytes.{blank};
 ghost use Rattle.text.specs.Texts.{allows};
 ghost use Rattle.text.specs.First.{firstOf};
 ghost use Rattle.layout.specs.Editions.{lengthOf, lastOf};
-ghost use Rattle.layout.specs.Page.{startOf, textOf, mayBeBlank, legal};
+ghost use Rattle.layout.specs.Page.{widthOf, startOf, textOf, mayBeBlank, legal};
 ghost use Rattle.layout.specs.Letters.{lettered, WidthRow, LetterRow};
 
 // The widths, a digit for each.
@@ -177,4 +177,24 @@ pub fn text_of(line: &[u8], e: usize) -> &[u8]
     }
     let widths = widths();
     columns(line, start_of(e), digit(widths[e]))
+}
+
+// How many columns element e has.
+pub fn width_of(e: usize) -> usize
+    ensures { λ r. ⌜ r ≡ widthOf e ⌝ }
+{
+    if 101 < e {
+        return 0;
+    }
+    let widths = widths();
+    digit(widths[e])
+}
+
+// Is element e blank, where it may be, or legal?
+pub fn is_legal_at(edition: Edition, line: &[u8], e: usize) -> bool
+    requires { ⌜ e ≤ 101 ⌝ }
+    ensures { λ r. ⌜ r ≡ legal edition (now (line .entry)) e ⌝ }
+{
+    let letters = letters_in(edition);
+    is_legal(e, letters[e], text_of(line, e))
 }

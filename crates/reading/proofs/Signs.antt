@@ -61,6 +61,14 @@ module _ (a : ℤ) (f : SFits w64 a) where
   pub up-is : natAbs (back a) ≡ natAbs a
   up-is = ap natAbs itself
 
+-- no number of 64 bits is further from zero than 2 ^ 63
+pub most : (z : ℤ) → SFits w64 z → natAbs z ≤ 2 ^ 63
+most (pos n) g = omega (arith, g .sfits)
+most (negsuc n) g = omega (arith, g .sfits)
+
+pub up-most : (a : ℤ) → SFits w64 a → natAbs (back a) ≤ 2 ^ 63
+up-most a f = rw (itself a f) (most a f)
+
 -- a number below zero, one above it, and the opposite of that
 module _ (n : ℕ) (f : SFits w64 (negsuc n)) where
   above : back (negsuc n) +ℤ pos 1 ≡ sucℤ (negsuc n)

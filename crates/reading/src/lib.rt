@@ -8,7 +8,7 @@ use layout::Refusal;
 use layout::page;
 ghost use mathlib.Core.Path.{_≡_};
 ghost use mathlib.Core.Bool.{true};
-ghost use Prim.Native.Nat.{_≤_, _+_};
+ghost use Prim.Native.Nat.{_≤_, _+_, _^_};
 ghost use lib.IntN.{natAbs};
 ghost use lib.ListN.{length};
 ghost use Rattle.text.specs.Texts.{among};
@@ -155,7 +155,7 @@ fn is_south(edition: Edition, digit: u32) -> bool
 }
 
 // Does it give the western?
-fn is_west(edition: Edition, digit: u32) -> bool
+pub fn is_west(edition: Edition, digit: u32) -> bool
     ensures { λ r. ⌜ r ≡ west edition digit ⌝ }
 {
     match edition {
@@ -165,17 +165,17 @@ fn is_west(edition: Edition, digit: u32) -> bool
     }
 }
 
-// East longitude.
-fn east_of(is_west: bool, longitude: u32) -> u64
+// East longitude from the longitude of a hemisphere, and back again.
+pub fn east_of(is_west: bool, longitude: u64) -> u64
     ensures { λ r. ⌜ r ≡ east «is_west» longitude ⌝ }
 {
     if !is_west {
-        return wide(longitude);
+        return longitude;
     }
     if 3600 <= longitude {
         return 0;
     }
-    wide((3600 - longitude) % 3600)
+    (3600 - longitude) % 3600
 }
 
 // The reading of column 12, latitude and longitude.
@@ -197,7 +197,7 @@ fn place_of(edition: Edition, digit: &[u8], latitude: &[u8], longitude: &[u8]) -
     let w = is_west(edition, d);
     Reading::At(Place {
         latitude: signed_of(s, text::number_of(latitude)),
-        longitude: east_of(w, text::number_of(longitude)),
+        longitude: east_of(w, wide(text::number_of(longitude))),
         digit: wide(d),
     })
 }
@@ -218,7 +218,7 @@ pub fn lead_of(e: usize) -> usize
 }
 
 // Is it the sign of a temperature?
-fn is_sign(e: usize) -> bool
+pub fn is_sign(e: usize) -> bool
     ensures { λ r. ⌜ r ≡ among 16 18 28 50 e ⌝ }
 {
     match e {
@@ -301,6 +301,7 @@ pub fn is_negative(a: i64) -> bool
 // sign is turned and once more after.
 pub fn magnitude(a: i64) -> u64
     ensures { λ r. ⌜ r ≡ natAbs a ⌝ }
+    ensures { λ r. ⌜ r ≤ 2 ^ 63 ⌝ }
 {
     if 0 <= a {
         return a as u64;

@@ -18,7 +18,8 @@ fn is_there(text: &[u8]) -> bool
     !text::is_blank(text)
 }
 
-fn same(a: bool, b: bool) -> bool
+// Are both true or both false?
+pub fn same(a: bool, b: bool) -> bool
     ensures { λ r. ⌜ r ≡ Bool·beq a b ⌝ }
 {
     if a { b } else { !b }

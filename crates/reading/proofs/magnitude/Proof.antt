@@ -1,5 +1,5 @@
 -- `reading::magnitude` meets its contract. Assumes nothing.
-use Rattle.reading.proofs.Signs.{down, up-fits, up-is}
+use Rattle.reading.proofs.Signs.{down, most, up-fits, up-is, up-most}
 use Rattle.reading.proofs.magnitude.Statement.{statement}
 use Rattle.reading.proofs.magnitude.Tie as tie
 
@@ -7,7 +7,7 @@ cast-result : tie.Need-cast-result
 cast-result c = up-fits _ (c .before .fits .a) (c .if1 .taken)
 
 returns : tie.Need-returns
-returns c = up-is _ (c .before .fits .a)
+returns c = (up-is _ (c .before .fits .a), up-most _ (c .before .fits .a))
 
 add-above : tie.Need-add-above
 add-above c = down _ (c .before .fits .a) (c .if1 .left) .added
@@ -22,7 +22,7 @@ add-result : tie.Need-add-result
 add-result c = down _ (c .before .fits .a) (c .if1 .left) .more
 
 returns-2 : tie.Need-returns-2
-returns-2 c = down _ (c .before .fits .a) (c .if1 .left) .is
+returns-2 c = (down _ (c .before .fits .a) (c .if1 .left) .is, rw (down _ (c .before .fits .a) (c .if1 .left) .is) (most _ (c .before .fits .a)))
 
 pub magnitude-spec : {M : Type 1} → statement M
 magnitude-spec =

@@ -43,14 +43,17 @@ signed-of-requires c κs = search needs
 number-of-requires-3 : tie.Need-number-of-requires-3
 number-of-requires-3 c κs = search needs
 
-east-of-requires : tie.Need-east-of-requires
-east-of-requires c κs = search needs
-
 wide-requires : tie.Need-wide-requires
 wide-requires c κs = search needs
 
+east-of-requires : tie.Need-east-of-requires
+east-of-requires c κs = search needs
+
+wide-requires-2 : tie.Need-wide-requires-2
+wide-requires-2 c κs = search needs
+
 returns-4 : tie.Need-returns-4
-returns-4 c = is-place _ _ _ _ _ (c .before .before .before .before .before .before .before .before .before .before .before .before .before .is-blank .ensures) (c .before .before .before .before .before .before .before .before .before .before .before .before .if1 .left) _ (c .before .before .before .before .before .before .before .before .before .before .before .is-blank2 .ensures) (c .before .before .before .before .before .before .before .before .before .before .if2 .left) _ (c .before .before .before .before .before .before .before .before .before .is-blank3 .ensures) (c .before .before .before .before .before .before .before .before .if3 .left) _ _ _ _ _ _ _ _ (c .before .before .before .before .before .before .before .number-of .ensures) (c .before .before .before .before .before .before .is-south .ensures) (c .before .before .before .before .before .is-west .ensures) (c .before .before .before .before .number-of2 .ensures) (toZ-ofZ {w = w64} {z = c .before .before .before .signed-of .result} (record { sfits = c .before .before .before .signed-of .ok }) ∙ c .before .before .before .signed-of .ensures) (c .before .before .number-of3 .ensures) (c .before .east-of .ensures) (c .wide .ensures)
+returns-4 c = is-place _ _ _ _ _ (c .before .before .before .before .before .before .before .before .before .before .before .before .before .before .is-blank .ensures) (c .before .before .before .before .before .before .before .before .before .before .before .before .before .if1 .left) _ (c .before .before .before .before .before .before .before .before .before .before .before .before .is-blank2 .ensures) (c .before .before .before .before .before .before .before .before .before .before .before .if2 .left) _ (c .before .before .before .before .before .before .before .before .before .before .is-blank3 .ensures) (c .before .before .before .before .before .before .before .before .before .if3 .left) _ _ _ _ _ _ _ _ (c .before .before .before .before .before .before .before .before .number-of .ensures) (c .before .before .before .before .before .before .before .is-south .ensures) (c .before .before .before .before .before .before .is-west .ensures) (c .before .before .before .before .before .number-of2 .ensures) (toZ-ofZ {w = w64} {z = c .before .before .before .before .signed-of .result} (record { sfits = c .before .before .before .before .signed-of .ok }) ∙ c .before .before .before .before .signed-of .ensures) (c .before .before .wide .ensures ∙ c .before .before .before .number-of3 .ensures) (c .before .east-of .ensures) (c .wide2 .ensures)
 
 pub place-of-spec : {M : Type 1} → statement M
 place-of-spec =
@@ -68,6 +71,7 @@ place-of-spec =
     number-of-requires-2
     signed-of-requires
     number-of-requires-3
-    east-of-requires
     wide-requires
+    east-of-requires
+    wide-requires-2
     returns-4)

@@ -1,0 +1,25 @@
+-- `layout::page::is_legal_at` meets its contract. Assumes nothing.
+use Rattle.layout.proofs.Elements.{legal-of}
+use borrow.Author.Needs.{needs}
+use Rattle.layout.proofs.page.is_legal_at.Statement.{statement}
+use Rattle.layout.proofs.page.is_legal_at.Tie as tie
+
+letters-in-requires : tie.Need-letters-in-requires
+letters-in-requires c κs = search needs
+
+array-read-is-legal : tie.Need-array-read-is-legal
+array-read-is-legal c = search needs
+
+text-of-requires : tie.Need-text-of-requires
+text-of-requires c κs = search needs
+
+is-legal-requires : tie.Need-is-legal-requires
+is-legal-requires c κs = search needs
+
+returns : tie.Need-returns
+returns c = legal-of _ _ _ _ (c .before .before .letters-in .ensures) _ (c .before .text-of .ensures .0) _ (c .is-legal .ensures)
+
+pub is-legal-at-spec : {M : Type 1} → statement M
+is-legal-at-spec =
+    tie.close
+    (tie.spec letters-in-requires array-read-is-legal text-of-requires is-legal-requires returns)

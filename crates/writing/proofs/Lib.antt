@@ -1,0 +1,2 @@
+-- The laws that the functions of this crate cite, and the promises of demand 2 about writing.
+pub mod SpellLaws

@@ -1,0 +1,16 @@
+-- `writing::departure_number` meets its contract. Assumes nothing.
+use borrow.Author.Needs.{needs}
+use Rattle.writing.proofs.departure_number.Statement.{statement}
+use Rattle.writing.proofs.departure_number.Tie as tie
+
+add-result : tie.Need-add-result
+add-result c = search needs
+
+returns : tie.Need-returns
+returns c = rw (c .if1 .taken)
+
+returns-2 : tie.Need-returns-2
+returns-2 c = rw (c .if1 .left)
+
+pub departure-number-spec : {M : Type 1} → statement M
+departure-number-spec = tie.close (tie.spec add-result returns returns-2)

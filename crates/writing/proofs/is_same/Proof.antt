@@ -1,0 +1,44 @@
+-- `writing::is_same` meets its contract. Assumes nothing.
+use Rattle.writing.proofs.SpellLaws.{last-part, other-case, other-first, other-second, other-sign}
+use Rattle.writing.specs.Same.{same}
+use borrow.Author.Needs.{needs}
+use borrow.Author.Tests.{not-false, not-true}
+use Rattle.writing.proofs.is_same.Statement.{statement}
+use Rattle.writing.proofs.is_same.Tie as tie
+
+parts-of-requires : tie.Need-parts-of-requires
+parts-of-requires c κs = search needs
+
+parts-of-requires-2 : tie.Need-parts-of-requires-2
+parts-of-requires-2 c κs = search needs
+
+returns : tie.Need-returns
+returns c = other-case _ _ _ _ (c .before .before .before .before .parts-of .ensures) (c .before .before .before .parts-of2 .ensures) (c .if1 .taken)
+
+same-requires : tie.Need-same-requires
+same-requires c κs = search needs
+
+returns-2 : tie.Need-returns-2
+returns-2 c = other-sign _ _ _ _ (c .before .before .before .before .before .before .parts-of .ensures) (c .before .before .before .before .before .parts-of2 .ensures) (c .before .before .if1 .left) _ (c .before .same .ensures) (not-true _ (c .if2 .taken))
+
+returns-3 : tie.Need-returns-3
+returns-3 c = other-first _ _ _ _ (c .before .before .before .before .before .before .before .before .before .parts-of .ensures) (c .before .before .before .before .before .before .before .before .parts-of2 .ensures) (c .before .before .before .before .before .if1 .left) _ (c .before .before .before .before .same .ensures) (not-false _ (c .before .before .before .if2 .left)) (c .if3 .taken)
+
+returns-4 : tie.Need-returns-4
+returns-4 c = other-second _ _ _ _ (c .before .before .before .before .before .before .before .before .before .before .before .before .parts-of .ensures) (c .before .before .before .before .before .before .before .before .before .before .before .parts-of2 .ensures) (c .before .before .before .before .before .before .before .before .if1 .left) _ (c .before .before .before .before .before .before .before .same .ensures) (not-false _ (c .before .before .before .before .before .before .if2 .left)) (c .before .before .before .if3 .left) (c .if4 .taken)
+
+returns-5 : tie.Need-returns-5
+returns-5 c = last-part _ _ _ _ (c .before .before .before .before .before .before .before .before .before .before .before .before .before .before .parts-of .ensures) (c .before .before .before .before .before .before .before .before .before .before .before .before .before .parts-of2 .ensures) (c .before .before .before .before .before .before .before .before .before .before .if1 .left) _ (c .before .before .before .before .before .before .before .before .before .same .ensures) (not-false _ (c .before .before .before .before .before .before .before .before .if2 .left)) (c .before .before .before .before .before .if3 .left) (c .before .before .if4 .left)
+
+pub is-same-spec : {M : Type 1} → statement M
+is-same-spec =
+    tie.close
+    (tie.spec
+    parts-of-requires
+    parts-of-requires-2
+    returns
+    same-requires
+    returns-2
+    returns-3
+    returns-4
+    returns-5)

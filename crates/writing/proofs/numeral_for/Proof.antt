@@ -1,0 +1,86 @@
+-- `writing::numeral_for` meets its contract. Assumes nothing.
+use Prim.Native.Nat.{ℕ}
+use Rattle.reading.proofs.Signs.{itself}
+use Rattle.writing.proofs.SpellLaws.{with-fit}
+use Rattle.writing.specs.Spelled.{amountNumeral, given, numeralFor}
+use borrow.Author.Needs.{needs}
+use lib.IntN.{ℤ}
+use mathlib.Core.Path.{_∙_, _≡_, ap, sym}
+use Rattle.layout.specs.declared.Edition.{Edition}
+use Rattle.reading.specs.declared.Reading.{Reading}
+use Rattle.writing.proofs.numeral_for.Statement.{statement}
+use Rattle.writing.proofs.numeral_for.Tie as tie
+
+-- the reading that an arm was taken at
+at-reading : (ed : Edition) (e : ℕ) {a b : Reading} → a ≡ b → numeralFor ed e b ≡ numeralFor ed e a
+at-reading ed e f = sym (ap (numeralFor ed e) f)
+
+enum-told : tie.Need-enum-told
+enum-told c = search needs
+
+blanks-requires : tie.Need-blanks-requires
+blanks-requires c κs = search needs
+
+enum-known-reading : tie.Need-enum-known-reading
+enum-known-reading c = search needs
+
+digits-requires : tie.Need-digits-requires
+digits-requires c κs = search needs
+
+enum-known-reading-2 : tie.Need-enum-known-reading-2
+enum-known-reading-2 c = search needs
+
+bytes-requires : tie.Need-bytes-requires
+bytes-requires c κs = search needs
+
+enum-known-reading-3 : tie.Need-enum-known-reading-3
+enum-known-reading-3 c = search needs
+
+amount-numeral-requires : tie.Need-amount-numeral-requires
+amount-numeral-requires c κs = search needs
+
+enum-known-reading-4 : tie.Need-enum-known-reading-4
+enum-known-reading-4 c = search needs
+
+place-numeral-requires : tie.Need-place-numeral-requires
+place-numeral-requires c κs = search needs
+
+returns : tie.Need-returns
+unfolding numeralFor
+returns c = with-fit (c .before .before .before .args .edition) (c .before .before .before .args .e) (c .before .before .before .args .reading) (c .blanks .ensures ∙ at-reading (c .before .before .before .args .edition) (c .before .before .before .args .e) (c .before .enum-told .given .1))
+
+returns-2 : tie.Need-returns-2
+unfolding numeralFor
+returns-2 c = with-fit (c .before .before .before .before .args .edition) (c .before .before .before .before .args .e) (c .before .before .before .before .args .reading) (c .digits .ensures ∙ at-reading (c .before .before .before .before .args .edition) (c .before .before .before .before .args .e) (c .before .before .reading .given .1))
+
+returns-3 : tie.Need-returns-3
+unfolding numeralFor
+returns-3 c = with-fit (c .before .before .before .before .args .edition) (c .before .before .before .before .args .e) (c .before .before .before .before .args .reading) (c .bytes .ensures ∙ at-reading (c .before .before .before .before .args .edition) (c .before .before .before .before .args .e) (c .before .before .reading2 .given .1))
+
+returns-4 : tie.Need-returns-4
+unfolding numeralFor
+returns-4 c = with-fit (c .before .before .before .before .args .edition) (c .before .before .before .before .args .e) (c .before .before .before .before .args .reading) (c .amount-numeral .ensures ∙ ap (λ (z : ℤ). amountNumeral (c .before .before .before .before .args .e) z (c .before .before .reading3 .given .0 .1 .0)) (itself (c .before .before .reading3 .given .0 .0) (record { sfits = (c .before .known-told3 .given .0 .1) })) ∙ at-reading (c .before .before .before .before .args .edition) (c .before .before .before .before .args .e) (c .before .before .reading3 .given .1))
+
+returns-5 : tie.Need-returns-5
+unfolding numeralFor
+returns-5 c = with-fit (c .before .before .before .before .args .edition) (c .before .before .before .before .args .e) (c .before .before .before .before .args .reading) (c .place-numeral .ensures ∙ at-reading (c .before .before .before .before .args .edition) (c .before .before .before .before .args .e) (c .before .before .reading4 .given .1))
+
+pub numeral-for-spec : {M : Type 1} → statement M
+numeral-for-spec =
+    tie.close
+    (tie.spec
+    enum-told
+    blanks-requires
+    enum-known-reading
+    digits-requires
+    enum-known-reading-2
+    bytes-requires
+    enum-known-reading-3
+    amount-numeral-requires
+    enum-known-reading-4
+    place-numeral-requires
+    returns
+    returns-2
+    returns-3
+    returns-4
+    returns-5)

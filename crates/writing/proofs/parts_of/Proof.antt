@@ -1,0 +1,79 @@
+-- `writing::parts_of` meets its contract. Assumes nothing.
+use Rattle.reading.proofs.Signs.{itself}
+use Rattle.reading.specs.Readings.{negative}
+use Rattle.writing.proofs.SpellLaws.{amount-parts, at-parts, place-parts}
+use Rattle.writing.specs.Same.{partsOf}
+use Rattle.writing.specs.Spelled.{given}
+use borrow.Author.Needs.{needs}
+use lib.IntN.{natAbs}
+use mathlib.Core.Path.{_∙_, ap}
+use Rattle.writing.proofs.parts_of.Statement.{statement}
+use Rattle.writing.proofs.parts_of.Tie as tie
+
+enum-told : tie.Need-enum-told
+enum-told c = search needs
+
+enum-known-reading : tie.Need-enum-known-reading
+enum-known-reading c = search needs
+
+enum-known-reading-2 : tie.Need-enum-known-reading-2
+enum-known-reading-2 c = search needs
+
+enum-known-reading-3 : tie.Need-enum-known-reading-3
+enum-known-reading-3 c = search needs
+
+is-negative-requires : tie.Need-is-negative-requires
+is-negative-requires c κs = search needs
+
+magnitude-requires : tie.Need-magnitude-requires
+magnitude-requires c κs = search needs
+
+kind-number-requires : tie.Need-kind-number-requires
+kind-number-requires c κs = search needs
+
+enum-known-reading-4 : tie.Need-enum-known-reading-4
+enum-known-reading-4 c = search needs
+
+is-negative-requires-2 : tie.Need-is-negative-requires-2
+is-negative-requires-2 c κs = search needs
+
+magnitude-requires-2 : tie.Need-magnitude-requires-2
+magnitude-requires-2 c κs = search needs
+
+returns : tie.Need-returns
+unfolding partsOf
+returns c = at-parts (c .enum-told .given .1)
+
+returns-2 : tie.Need-returns-2
+unfolding partsOf
+returns-2 c = at-parts ((c .before .reading .given .1))
+
+returns-3 : tie.Need-returns-3
+unfolding partsOf
+returns-3 c = at-parts (c .before .reading2 .given .1)
+
+returns-4 : tie.Need-returns-4
+returns-4 c = amount-parts _ _ _ _ _ ((c .before .before .is-negative .ensures) ∙ ap negative (itself (c .before .before .before .before .reading3 .given .0 .0) (record { sfits = (c .before .before .before .known-told3 .given .0 .1) }))) ((c .before .magnitude .ensures .0) ∙ ap natAbs (itself (c .before .before .before .before .reading3 .given .0 .0) (record { sfits = (c .before .before .before .known-told3 .given .0 .1) }))) (c .kind-number .ensures) ∙ at-parts (c .before .before .before .before .reading3 .given .1)
+
+returns-5 : tie.Need-returns-5
+returns-5 c = place-parts _ _ _ ((c .before .before .is-negative2 .ensures) ∙ ap negative (itself (c .before .before .before .before .before .reading4 .given .0 .0 .latitude) (record { sfits = (c .before .before .before .struct-told .given .0 .1) }))) ((c .magnitude2 .ensures .0) ∙ ap natAbs (itself (c .before .before .before .before .before .reading4 .given .0 .0 .latitude) (record { sfits = (c .before .struct-told2 .given .0 .1) }))) ∙ at-parts (c .before .before .before .before .before .reading4 .given .1)
+
+pub parts-of-spec : {M : Type 1} → statement M
+parts-of-spec =
+    tie.close
+    (tie.spec
+    enum-told
+    enum-known-reading
+    enum-known-reading-2
+    enum-known-reading-3
+    is-negative-requires
+    magnitude-requires
+    kind-number-requires
+    enum-known-reading-4
+    is-negative-requires-2
+    magnitude-requires-2
+    returns
+    returns-2
+    returns-3
+    returns-4
+    returns-5)

@@ -2,10 +2,9 @@
 use mathlib.Core.Path.{_≡_, refl, sym, ap, _∙_}
 use mathlib.Core.List.{List, []}
 use Prim.Native.Nat.{ℕ, _≤_}
-use native.Mathlib.Nat.{min-eq-left}
 use native.Mathlib.Omega.{arith}
 use lib.Dec.{lit≤}
-use lib.ListN.{length, take, drop, length-take}
+use lib.ListN.{length, take, drop}
 use Rattle.text.specs.Bytes.{toLastNonBlank}
 use Rattle.layout.specs.declared.Edition.{Edition}
 use Rattle.layout.specs.declared.Edition.the-variants.{One, Three, Four}
@@ -24,9 +23,6 @@ at-least Four = lit≤ tt
 -- an accepted record has the call sign's columns
 pub long : (xs : List ℕ) (ed : Edition) (a : Answer) → a ≡ checked xs → a ≡ Accepted ed → 131 ≤ length xs
 long xs ed a e h = omega (arith, accepted-exactly xs ed .0 (sym e ∙ h) .full, at-least ed)
-
-pub front-length : (n : ℕ) (ts : List ℕ) → n ≤ length ts → n ≡ length (take n ts)
-front-length n ts h = rw (length-take, min-eq-left h)
 
 pub shown : (xs : List ℕ) (ed : Edition) (a : Answer) (n : ℕ) → a ≡ checked xs → a ≡ Accepted ed → take n (take 7 (drop 71 xs)) ≡ toLastNonBlank (take 7 (drop 71 xs)) →
     take n (take 7 (drop 71 xs)) ≡ callSignOf (checked xs) xs

@@ -1,12 +1,13 @@
 -- What each way through the code that reads says of the reading. Assumes nothing.
 use mathlib.Core.Path.{_≡_, refl, sym, ap, _∙_}
-use mathlib.Core.Bool.{Bool, true, false, not, _||_, true≢false}
+use mathlib.Core.Bool.{Bool, true, false, cond, not, _||_, true≢false}
 use mathlib.Core.Logic.{_⊎_, inl, inr, ⊎-elim}
 use mathlib.Core.List.{List}
 use Prim.Native.Nat.{ℕ, _+_, _-_, _%_, _≤_, _<_}
 use native.Mathlib.Omega.{arith}
 use borrow.Author.Tests.{eq-eqb, ne-eqb, le-leb, lt-leb, eqb-true}
-use lib.Dec.{leb, eqb}
+use native.Mathlib.Nat.{le-refl}
+use lib.Dec.{leb, eqb, lit≤}
 use lib.IntN.{ℤ}
 use Rattle.text.specs.Bytes.{blank, digits, number, word}
 use Rattle.text.specs.Texts.{among}
@@ -22,7 +23,7 @@ use Rattle.reading.specs.declared.Kind.the-variants.{Measured}
 use Rattle.reading.specs.declared.Place.{Place}
 use Rattle.reading.specs.declared.Reading.{Reading}
 use Rattle.reading.specs.declared.Reading.the-variants.{Missing, Code, Text, Amount, At}
-use Rattle.reading.specs.Readings.{signed, alwaysText, codeOf, plain, below, kindOf, temperature, departure, south, west, east, placeOf, itemOf, readingOf}
+use Rattle.reading.specs.Readings.{signed, alwaysText, codeOf, plain, below, kindOf, temperature, departure, south, west, east, placeOf, lead, itemOf, readingOf}
 use Rattle.reading.specs.declared.Found.the-variants.{Reads, Unread}
 use Rattle.reading.specs.Answers.{readAfter, readOf}
 
@@ -188,3 +189,26 @@ module _ (ed : Edition) (xs : List ℕ) (e : ℕ) where
 
 pub after-answer : {a b : Answer} (xs : List ℕ) (e : ℕ) → a ≡ checked xs → a ≡ b → readAfter b xs e ≡ readOf xs e
 after-answer xs e f g = ap (λ (q : Answer). readAfter q xs e) (sym g ∙ f)
+
+pub among-above : (k a b c d n : ℕ) → k ≤ a → k ≤ b → k ≤ c → k ≤ d → among a b c d n ≡ true → k ≤ n
+among-above k a b c d n p q r s h =
+    ⊎-elim
+    (λ x. ⊎-elim
+    (λ y. ⊎-elim (λ z. rw (eqb-true n a z) p) (λ z. rw (eqb-true n b z) q) (either-half _ _ y))
+    (λ y. rw (eqb-true n c y) r)
+    (either-half _ _ x))
+    (λ x. rw (eqb-true n d x) s)
+    (either-half _ _ h)
+
+-- the lowest element that shares a reading with e is one of the elements, and no higher than e
+pub record Lead (e l : ℕ) : Type 0 where
+  pub low : 1 ≤ l
+  pub high : l ≤ e
+
+lead-by : (e : ℕ) (x y : Bool) → among 7 8 7 8 e ≡ x → among 17 19 29 51 e ≡ y → 1 ≤ e → Lead e (cond x 6 (cond y (e - 1) e))
+lead-by e true y p q h = record { low = lit≤ tt; high = omega (arith, among-above 7 7 8 7 8 e (lit≤ tt) (lit≤ tt) (lit≤ tt) (lit≤ tt) p) }
+lead-by e false true p q h = let k = among-above 17 17 19 29 51 e (lit≤ tt) (lit≤ tt) (lit≤ tt) (lit≤ tt) q in record { low = omega arith; high = omega arith }
+lead-by e false false p q h = record { low = h; high = le-refl e }
+
+pub lead-is : (e : ℕ) → 1 ≤ e → Lead e (lead e)
+lead-is e h = lead-by e _ _ refl refl h

@@ -5,3 +5,4 @@ pub mod Blanks
 pub mod Numbers
 pub mod First
 pub mod Bits
+pub mod Parts

@@ -1,2 +1,4 @@
 -- The laws that the functions of this crate cite, and the promises of demand 2 about writing.
 pub mod SpellLaws
+pub mod RowLaws
+pub mod WriteLaws

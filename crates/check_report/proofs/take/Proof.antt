@@ -1,5 +1,5 @@
 -- `check_report::take` meets its contract. Assumes nothing.
-use Rattle.check_report.proofs.Parts.{part-length}
+use Rattle.text.proofs.Parts.{front-length}
 use borrow.Author.Needs.{needs}
 use Rattle.check_report.proofs.take.Statement.{statement}
 use Rattle.check_report.proofs.take.Tie as tie
@@ -17,7 +17,7 @@ slice-reshare-prefix-tell : tie.Need-slice-reshare-prefix-tell
 slice-reshare-prefix-tell c = search needs
 
 slice-aggregate-tell : tie.Need-slice-aggregate-tell
-slice-aggregate-tell c = part-length _ _ (c .before .if2 .taken)
+slice-aggregate-tell c = front-length _ _ (c .before .if2 .taken)
 
 tell-requires : tie.Need-tell-requires
 tell-requires c κs = search needs

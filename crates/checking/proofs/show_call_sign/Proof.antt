@@ -1,5 +1,6 @@
 -- `checking::show_call_sign` meets its contract. Assumes nothing.
-use Rattle.checking.proofs.SignLaws.{front-length, hidden, long, shown}
+use Rattle.text.proofs.Parts.{front-length}
+use Rattle.checking.proofs.SignLaws.{hidden, long, shown}
 use Rattle.checking.specs.Check.{callSignOf}
 use borrow.Author.Needs.{needs}
 use native.Mathlib.Omega.{arith}

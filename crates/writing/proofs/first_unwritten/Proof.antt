@@ -1,54 +1,52 @@
+-- `writing::first_unwritten` meets its contract. Assumes nothing.
+use Prim.Native.Nat.{_+_, _-_, _≤_}
+use Rattle.text.proofs.First.{begin, end, off, on}
+use Rattle.text.specs.First.{firstFrom, firstOf}
+use Rattle.writing.specs.Written.{writes}
+use borrow.Author.Needs.{needs}
+use borrow.Author.Tests.{not-false, not-true}
+use mathlib.Core.Path.{_∙_, _≡_, sym}
+use native.Mathlib.Omega.{arith}
 use Rattle.writing.proofs.first_unwritten.Statement.{statement}
 use Rattle.writing.proofs.first_unwritten.Tie as tie
-use Rattle.writing.proofs.first_unwritten.Reads as reads
-use Rattle.writing.proofs.first_unwritten.Lts as lts
-use Rattle.writing.proofs.is_written.Reads as is-written-reads
 
 abbrev Inv-loop : tie.InvT-loop
-Inv-loop edition text readings e₀ e = ?
+Inv-loop edition text readings e₀ e = (1 ≤ e) × (firstOf 101 (writes edition readings text) ≡ firstFrom (writes edition readings text) e (101 + 1 - e))
 
 abbrev μ-loop : tie.MeasureT-loop
-μ-loop edition text readings e₀ e = ?
+μ-loop edition text readings e₀ e = 101 + 1 - e
 
--- src/lib.rt:220:5
 loop-holds : tie.Need-loop-holds Inv-loop μ-loop
-loop-holds c = ?
+loop-holds c = (search needs, begin (writes (c .before .args .edition) (c .before .args .t2) (c .before .args .text .now)) 101)
 
--- src/lib.rt:221:17
 sub-k : tie.Need-sub-k Inv-loop μ-loop
-sub-k c = ?
+sub-k c = search needs
 
--- src/lib.rt:222:17
 mul-r : tie.Need-mul-r Inv-loop μ-loop
-mul-r c = ?
+mul-r c = omega arith
 
--- src/lib.rt:222:17
 array-copy-out-r : tie.Need-array-copy-out-r Inv-loop μ-loop
-array-copy-out-r c = ?
+array-copy-out-r c = omega arith
 
--- src/lib.rt:223:13
 is-written-requires : tie.Need-is-written-requires Inv-loop μ-loop
-is-written-requires c κs = ?
+is-written-requires c κs = search needs
 
--- src/lib.rt:224:13
 returns : tie.Need-returns Inv-loop μ-loop
-returns c = ?
+unfolding writes
+returns c = sym ((c .before .before .before .before .loop .inv .1) ∙ off (writes (c .before .before .before .before .before .before .args .edition) (c .before .before .before .before .before .before .args .t2) (c .before .before .before .before .before .before .args .text .now)) 101 _ (c .before .before .before .loop-test .taken) (sym (c .before .is-written .ensures) ∙ not-true _ (c .if1 .taken)))
 
--- src/lib.rt:226:9
 add-e : tie.Need-add-e Inv-loop μ-loop
-add-e c = ?
+add-e c = search needs
 
--- src/lib.rt:220:5
 loop-less : tie.Need-loop-less Inv-loop μ-loop
-loop-less c = ?
+loop-less c = search needs
 
--- src/lib.rt:220:5
 loop-again : tie.Need-loop-again Inv-loop μ-loop
-loop-again c = ?
+unfolding writes
+loop-again c = (omega arith, (c .before .before .before .before .loop .inv .1) ∙ on (writes (c .before .before .before .before .before .before .args .edition) (c .before .before .before .before .before .before .args .t2) (c .before .before .before .before .before .before .args .text .now)) 101 _ (c .before .before .before .loop-test .taken) (sym (c .before .is-written .ensures) ∙ not-false _ (c .if1 .left)))
 
--- src/lib.rt:216:1
 returns-2 : tie.Need-returns-2 Inv-loop μ-loop
-returns-2 c = ?
+returns-2 c = sym ((c .before .loop .inv .1) ∙ end (writes (c .before .before .before .args .edition) (c .before .before .before .args .t2) (c .before .before .before .args .text .now)) 101 _ (c .loop-test .left))
 
 pub first-unwritten-spec : {M : Type 1} → statement M
 first-unwritten-spec =

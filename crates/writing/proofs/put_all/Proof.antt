@@ -1,73 +1,81 @@
+-- `writing::put_all` meets its contract. Assumes nothing.
+use Prim.Native.Nat.{_+_, _-_, _≤_, ℕ}
+use Rattle.reading.proofs.ReadingLaws.{lead-is}
+use Rattle.writing.proofs.RowLaws.{row-end, row-turn, within}
+use Rattle.writing.specs.Spelled.{given, numeralFor, rowFrom}
+use borrow.Author.Needs.{needs}
+use lib.ListN.{length, take}
+use mathlib.Core.List.{_++_}
+use mathlib.Core.Path.{_∙_, _≡_, ap, refl, sym}
+use native.Mathlib.Omega.{arith}
+use Rattle.layout.specs.Page.{startOf, columns}
+use Rattle.reading.proofs.ReadingLaws.{Lead}
 use Rattle.writing.proofs.put_all.Statement.{statement}
 use Rattle.writing.proofs.put_all.Tie as tie
-use Rattle.writing.proofs.put_all.Reads as reads
-use Rattle.writing.proofs.put_all.Lts as lts
-use Rattle.layout.proofs.page.width_of.Reads as width-of-reads
-use Rattle.numerals.proofs.put.Reads as put-reads
-use Rattle.reading.proofs.lead_of.Reads as lead-of-reads
-use Rattle.writing.proofs.numeral_for.Reads as numeral-for-reads
 
 abbrev Inv-loop : tie.InvT-loop
-Inv-loop edition row₀ readings at₀ e₀ row at e = ?
+Inv-loop edition row₀ readings at₀ e₀ row at e = (length row ≡ 159) × ((at ≡ startOf e) × ((1 ≤ e) × ((e ≤ 102) × (take at row ++ rowFrom edition readings e (101 + 1 - e) ≡ rowFrom edition readings 1 101))))
 
 abbrev μ-loop : tie.MeasureT-loop
-μ-loop edition row₀ readings at₀ e₀ row at e = ?
+μ-loop edition row₀ readings at₀ e₀ row at e = 101 + 1 - e
 
--- src/lib.rt:197:5
+lead : (c : tie.After-lead-of Inv-loop μ-loop) → Lead (c .before .before .before .loop .e) (c .lead-of .result)
+lead c = rw (c .lead-of .ensures) (lead-is _ (c .before .before .before .loop .inv .1 .1 .0))
+
 loop-holds : tie.Need-loop-holds Inv-loop μ-loop
-loop-holds c = ?
+unfolding startOf columns
+loop-holds c = ((c .before .pre), (refl, (search needs, (search needs, refl))))
 
--- src/lib.rt:198:13
 width-of-requires : tie.Need-width-of-requires Inv-loop μ-loop
-width-of-requires c κs = ?
+width-of-requires c κs = search needs
 
--- src/lib.rt:199:17
 lead-of-requires : tie.Need-lead-of-requires Inv-loop μ-loop
-lead-of-requires c κs = ?
+lead-of-requires c κs = search needs
 
--- src/lib.rt:199:17
 sub-k : tie.Need-sub-k Inv-loop μ-loop
-sub-k c = ?
+sub-k c = omega (arith, lead c)
 
--- src/lib.rt:200:17
 mul-r : tie.Need-mul-r Inv-loop μ-loop
-mul-r c = ?
+mul-r c = omega (arith, lead c)
 
--- src/lib.rt:200:17
 array-copy-out-r : tie.Need-array-copy-out-r Inv-loop μ-loop
-array-copy-out-r c = ?
+array-copy-out-r c = omega (arith, lead c)
 
--- src/lib.rt:201:39
 numeral-for-requires : tie.Need-numeral-for-requires Inv-loop μ-loop
-numeral-for-requires c κs = ?
+numeral-for-requires c κs = search needs
 
--- src/lib.rt:201:9
 put-requires : tie.Need-put-requires Inv-loop μ-loop
-put-requires c κs = ?
+put-requires c κs = (omega (arith, (within _ _ _ (c .before .before .before .before .before .before .loop .inv .1 .0) (c .before .before .before .before .width-of .ensures) (c .before .before .before .before .before .loop-test .taken)) .1, (c .before .before .before .before .before .before .loop .inv .0)), c .numeral-for .ensures .1)
 
--- src/lib.rt:202:9
 add-at : tie.Need-add-at Inv-loop μ-loop
-add-at c = ?
+add-at c = omega (arith, (within _ _ _ (c .before .before .before .before .before .before .before .before .before .loop .inv .1 .0) (c .before .before .before .before .before .before .before .width-of .ensures) (c .before .before .before .before .before .before .before .before .loop-test .taken)) .1)
 
--- src/lib.rt:203:9
 add-e : tie.Need-add-e Inv-loop μ-loop
-add-e c = ?
+add-e c = search needs
 
--- src/lib.rt:197:5
 loop-less : tie.Need-loop-less Inv-loop μ-loop
-loop-less c = ?
+loop-less c = search needs
 
--- src/lib.rt:197:5
 loop-again : tie.Need-loop-again Inv-loop μ-loop
-loop-again c = ?
+loop-again c = (
+  (c .before .before .put .kept .0) ∙ (c .before .before .before .before .before .before .before .before .before .loop .inv .0),
+  (
+    (within _ _ _ (c .before .before .before .before .before .before .before .before .before .loop .inv .1 .0) (c .before .before .before .before .before .before .before .width-of .ensures) (c .before .before .before .before .before .before .before .before .loop-test .taken)) .0,
+    (
+      omega arith,
+      (
+        omega arith,
+        rw (c .before .before .put .ensures) (row-turn (c .before .before .before .before .before .before .before .before .before .before .before .args .edition) (c .before .before .before .before .before .before .before .before .before .before .before .args .t2) _ (c .before .before .before .before .before .before .before .before .before .loop .row) (c .before .before .before .before .before .before .before .before .before .loop .at) (c .before .before .before .before .before .before .before .before .before .loop .e) (c .before .before .before .before .before .before .before .before .before .loop .inv .1 .1 .1 .1) (c .before .before .before .before .before .before .before .width-of .result) (c .before .before .before .numeral-for .result) (c .before .before .before .before .before .before .before .before .loop-test .taken) (omega (arith, (within _ _ _ (c .before .before .before .before .before .before .before .before .before .loop .inv .1 .0) (c .before .before .before .before .before .before .before .width-of .ensures) (c .before .before .before .before .before .before .before .before .loop-test .taken)) .1, (c .before .before .before .before .before .before .before .before .before .loop .inv .0))) (c .before .before .before .before .before .before .before .width-of .ensures) ((c .before .before .before .numeral-for .ensures .0) ∙ ap (λ (l : ℕ). numeralFor (c .before .before .before .before .before .before .before .before .before .before .before .args .edition) (c .before .before .before .before .before .before .before .before .before .loop .e) (given (c .before .before .before .before .before .before .before .before .before .before .before .args .t2) l)) (c .before .before .before .before .before .before .lead-of .ensures))),
+      ),
+    ),
+  ),
+)
 
--- src/lib.rt:191:1
 same-length : tie.Need-same-length Inv-loop μ-loop
-same-length c = ?
+same-length c = (c .before .loop .inv .0) ∙ sym (c .before .before .before .pre)
 
--- src/lib.rt:191:1
 returns : tie.Need-returns Inv-loop μ-loop
-returns c = ?
+returns c = row-end _ _ _ _ _ _ (c .before .loop .inv .1 .1 .1 .1) (c .before .loop .inv .0) (c .before .loop .inv .1 .0) (c .loop-test .left) (c .before .loop .inv .1 .1 .1 .0)
 
 pub put-all-spec : {M : Type 1} → statement M
 put-all-spec =

@@ -1,38 +1,37 @@
+-- `writing::write` meets its contract. Assumes nothing.
+use Rattle.writing.proofs.WriteLaws.{at-name, at-name-after}
+use Rattle.writing.specs.Spelled.{given}
+use Rattle.writing.specs.Written.{afterAs, filledBy, writtenAs}
 use borrow.Author.Needs.{needs}
+use lib.ListN.{length}
+use mathlib.Core.Path.{_∙_, ap}
+use Rattle.layout.specs.declared.Named.{Named}
+use Rattle.writing.specs.declared.Outcome.{Outcome}
 use Rattle.writing.proofs.write.Statement.{statement}
 use Rattle.writing.proofs.write.Tie as tie
-use Rattle.writing.proofs.write.Reads as reads
-use Rattle.writing.proofs.write.Lts as lts
-use Rattle.layout.proofs.Edition.of_number.Reads as of-number-reads
-use Rattle.writing.proofs.write_in.Reads as write-in-reads
 
--- src/lib.rt:272:11
 of-number-requires : tie.Need-of-number-requires
 of-number-requires c κs = search needs
 
--- src/lib.rt:273:22
 enum-known-held : tie.Need-enum-known-held
 enum-known-held c = search needs
 
--- src/lib.rt:273:31
 write-in-requires : tie.Need-write-in-requires
 write-in-requires c κs = search needs
 
--- src/lib.rt:274:46
 enum-told : tie.Need-enum-told
 enum-told c = search needs
 
--- src/lib.rt:268:1
 same-length : tie.Need-same-length
 same-length c = search needs
 
--- src/lib.rt:268:1
 returns : tie.Need-returns
-returns c = ?
+unfolding writtenAs afterAs
+returns c = ((c .before .before .write-in .ensures .0) ∙ at-name _ _ (c .before .before .before .before .before .held .given .1) ∙ ap (λ (q : Named). writtenAs q (c .before .before .before .before .before .before .before .before .before .args .readings) (length (c .before .before .before .before .before .before .before .before .before .args .buffer .now))) (c .before .before .before .before .before .before .before .of-number .ensures), (c .before .before .write-in .ensures .1) ∙ ap (λ (o : Outcome). filledBy (c .before .before .before .before .before .held .given .0 .0) (c .before .before .before .before .before .before .before .before .before .args .readings) o (c .before .before .before .before .before .before .before .before .before .args .buffer .now)) (c .before .before .write-in .ensures .0) ∙ at-name-after _ _ (c .before .before .before .before .before .held .given .1) ∙ ap (λ (q : Named). afterAs q (c .before .before .before .before .before .before .before .before .before .args .readings) (c .before .before .before .before .before .before .before .before .before .args .buffer .now)) (c .before .before .before .before .before .before .before .of-number .ensures))
 
--- src/lib.rt:268:1
 returns-2 : tie.Need-returns-2
-returns-2 c = ?
+unfolding writtenAs afterAs
+returns-2 c = (at-name _ _ (c .enum-told .given .1) ∙ ap (λ (q : Named). writtenAs q (c .before .before .before .before .args .readings) (length (c .before .before .before .before .args .buffer .now))) (c .before .before .of-number .ensures), at-name-after _ _ (c .enum-told .given .1) ∙ ap (λ (q : Named). afterAs q (c .before .before .before .before .args .readings) (c .before .before .before .before .args .buffer .now)) (c .before .before .of-number .ensures))
 
 pub write-spec : {M : Type 1} → statement M
 write-spec =

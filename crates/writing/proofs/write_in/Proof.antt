@@ -1,86 +1,70 @@
+-- `writing::write_in` meets its contract. Assumes nothing.
+use Rattle.writing.proofs.WriteLaws.{breaks, done, filled-up, is-record, no-room, not-writable, record-length, within-row}
+use Rattle.writing.specs.Written.{filledBy}
 use borrow.Author.Needs.{needs}
+use lib.ListN.{length}
+use mathlib.Core.Path.{refl}
+use native.Mathlib.Omega.{arith}
 use Rattle.writing.proofs.write_in.Statement.{statement}
 use Rattle.writing.proofs.write_in.Tie as tie
-use Rattle.writing.proofs.write_in.Reads as reads
-use Rattle.writing.proofs.write_in.Lts as lts
-use Rattle.bytes.proofs.copy.Reads as copy-reads
-use Rattle.layout.proofs.Edition.length.Reads as length-reads
-use Rattle.reading.proofs.lead_of.Reads as lead-of-reads
-use Rattle.ties.proofs.first_broken.Reads as first-broken-reads
-use Rattle.writing.proofs.first_unwritten.Reads as first-unwritten-reads
-use Rattle.writing.proofs.put_all.Reads as put-all-reads
 
--- src/lib.rt:248:9
 length-requires : tie.Need-length-requires
 length-requires c κs = search needs
 
--- src/lib.rt:250:32
 slice-aggregate-put-all : tie.Need-slice-aggregate-put-all
 slice-aggregate-put-all c = search needs
 
--- src/lib.rt:250:5
 put-all-requires : tie.Need-put-all-requires
 put-all-requires c κs = search needs
 
--- src/lib.rt:251:48
 array-share-prefix-row : tie.Need-array-share-prefix-row
-array-share-prefix-row c = ?
+array-share-prefix-row c = within-row _ _ _ _ (c .before .put-all .ensures) (c .before .put-all .kept .1 .1 .0) (c .before .before .before .length .ensures)
 
--- src/lib.rt:251:48
 slice-aggregate-first-unwritten : tie.Need-slice-aggregate-first-unwritten
-slice-aggregate-first-unwritten c = ?
+slice-aggregate-first-unwritten c = record-length _ _ _ _ (c .before .before .put-all .ensures) (c .before .before .put-all .kept .1 .1 .0) (c .before .before .before .before .length .ensures)
 
--- src/lib.rt:251:9
 first-unwritten-requires : tie.Need-first-unwritten-requires
 first-unwritten-requires c κs = search needs
 
--- src/lib.rt:253:52
 lead-of-requires : tie.Need-lead-of-requires
 lead-of-requires c κs = search needs
 
--- src/lib.rt:253:9
 returns : tie.Need-returns
-returns c = ?
+unfolding filledBy
+returns c = (not-writable _ _ _ _ (is-record _ _ _ _ (c .before .before .before .before .before .put-all .ensures) (c .before .before .before .before .before .put-all .kept .1 .1 .0) (c .before .before .before .before .before .before .before .length .ensures)) _ (c .before .before .first-unwritten .ensures) (c .before .if1 .taken) _ (c .lead-of .ensures), refl)
 
--- src/lib.rt:255:41
 array-share-prefix-row-2 : tie.Need-array-share-prefix-row-2
-array-share-prefix-row-2 c = ?
+array-share-prefix-row-2 c = within-row _ _ _ _ (c .before .before .before .before .put-all .ensures) (c .before .before .before .before .put-all .kept .1 .1 .0) (c .before .before .before .before .before .before .length .ensures)
 
--- src/lib.rt:255:41
 slice-aggregate-first-broken : tie.Need-slice-aggregate-first-broken
-slice-aggregate-first-broken c = ?
+slice-aggregate-first-broken c = record-length _ _ _ _ (c .before .before .before .before .before .put-all .ensures) (c .before .before .before .before .before .put-all .kept .1 .1 .0) (c .before .before .before .before .before .before .before .length .ensures)
 
--- src/lib.rt:255:9
 first-broken-requires : tie.Need-first-broken-requires
 first-broken-requires c κs = search needs
 
--- src/lib.rt:257:9
 returns-2 : tie.Need-returns-2
-returns-2 c = ?
+unfolding filledBy
+returns-2 c = (breaks _ _ _ _ (is-record _ _ _ _ (c .before .before .before .before .before .before .before .put-all .ensures) (c .before .before .before .before .before .before .before .put-all .kept .1 .1 .0) (c .before .before .before .before .before .before .before .before .before .length .ensures)) _ (c .before .before .before .before .first-unwritten .ensures) (c .before .before .before .if1 .left) _ (c .before .first-broken .ensures) (c .if2 .taken), refl)
 
--- src/lib.rt:260:9
 returns-3 : tie.Need-returns-3
-returns-3 c = ?
+unfolding filledBy
+returns-3 c = (no-room _ _ _ _ (is-record _ _ _ _ (c .before .before .before .before .before .before .before .before .put-all .ensures) (c .before .before .before .before .before .before .before .before .put-all .kept .1 .1 .0) (c .before .before .before .before .before .before .before .before .before .before .length .ensures)) _ (c .before .before .before .before .before .first-unwritten .ensures) (c .before .before .before .before .if1 .left) _ (c .before .before .first-broken .ensures) (c .before .if2 .left) (omega (arith, (c .if3 .taken), (c .before .before .before .before .before .before .before .before .before .before .length .ensures))), refl)
 
--- src/lib.rt:262:17
 array-share-prefix-row-3 : tie.Need-array-share-prefix-row-3
-array-share-prefix-row-3 c = ?
+array-share-prefix-row-3 c = within-row _ _ _ _ (c .before .before .before .before .before .before .before .before .put-all .ensures) (c .before .before .before .before .before .before .before .before .put-all .kept .1 .1 .0) (c .before .before .before .before .before .before .before .before .before .before .length .ensures)
 
--- src/lib.rt:262:17
 slice-aggregate-copy : tie.Need-slice-aggregate-copy
-slice-aggregate-copy c = ?
+slice-aggregate-copy c = record-length _ _ _ _ (c .before .before .before .before .before .before .before .before .before .put-all .ensures) (c .before .before .before .before .before .before .before .before .before .put-all .kept .1 .1 .0) (c .before .before .before .before .before .before .before .before .before .before .before .length .ensures)
 
--- src/lib.rt:262:5
 copy-requires : tie.Need-copy-requires
-copy-requires c κs = ?
+copy-requires c κs = omega (arith, record-length _ _ _ _ (c .before .before .before .before .before .before .before .before .before .before .put-all .ensures) (c .before .before .before .before .before .before .before .before .before .before .put-all .kept .1 .1 .0) (c .before .before .before .before .before .before .before .before .before .before .before .before .length .ensures), (c .before .before .if3 .left))
 
--- src/lib.rt:244:1
 same-length : tie.Need-same-length
 same-length c = search needs
 
--- src/lib.rt:244:1
 returns-4 : tie.Need-returns-4
-returns-4 c = ?
+unfolding filledBy
+returns-4 c = (done _ _ _ _ (is-record _ _ _ _ (c .before .before .before .before .before .before .before .before .before .before .before .before .before .put-all .ensures) (c .before .before .before .before .before .before .before .before .before .before .before .before .before .put-all .kept .1 .1 .0) (c .before .before .before .before .before .before .before .before .before .before .before .before .before .before .before .length .ensures)) _ (c .before .before .before .before .before .before .before .before .before .before .first-unwritten .ensures) (c .before .before .before .before .before .before .before .before .before .if1 .left) _ (c .before .before .before .before .before .before .before .first-broken .ensures) (c .before .before .before .before .before .before .if2 .left) (omega (arith, (c .before .before .before .before .before .if3 .left), (c .before .before .before .before .before .before .before .before .before .before .before .before .before .before .before .length .ensures))), filled-up _ _ _ _ (c .before .before .before .before .before .before .before .before .before .before .before .before .before .put-all .ensures) (c .before .before .before .before .before .before .before .before .before .before .before .before .before .put-all .kept .1 .1 .0) (c .before .before .before .before .before .before .before .before .before .before .before .before .before .before .before .length .ensures) _ _ (c .before .before .copy .ensures .1))
 
 pub write-in-spec : {M : Type 1} → statement M
 write-in-spec =

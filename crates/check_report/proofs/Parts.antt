@@ -1,9 +1,0 @@
--- The front of a slice that is lent has as many bytes as were asked for. Assumes nothing.
-use mathlib.Core.Path.{_≡_}
-use mathlib.Core.List.{List}
-use Prim.Native.Nat.{ℕ, _≤_}
-use native.Mathlib.Nat.{min-eq-left}
-use lib.ListN.{length, take, length-take}
-
-pub part-length : (n : ℕ) (xs : List ℕ) → n ≤ length xs → n ≡ length (take n xs)
-part-length n xs h = rw (length-take, min-eq-left h)

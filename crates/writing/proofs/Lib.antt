@@ -2,3 +2,6 @@
 pub mod SpellLaws
 pub mod RowLaws
 pub mod WriteLaws
+pub mod RecordLaws
+pub mod PrintLaws
+pub mod SameLaws

@@ -24,7 +24,7 @@ front at t before h = take-at (take at before ++ t) (drop (at + length t) before
 left : (n k : ℕ) → k ≤ n → n + 1 - k ≡ suc (n + 1 - (k + 1))
 left n k h = omega arith
 
-one-more : (ed : Edition) (rs : List Reading) (e : ℕ) → e ≤ 101 → rowFrom ed rs e (101 + 1 - e) ≡ textFor ed rs e ++ rowFrom ed rs (e + 1) (101 + 1 - (e + 1))
+pub one-more : (ed : Edition) (rs : List Reading) (e : ℕ) → e ≤ 101 → rowFrom ed rs e (101 + 1 - e) ≡ textFor ed rs e ++ rowFrom ed rs (e + 1) (101 + 1 - (e + 1))
 unfolding rowFrom
 one-more ed rs e h = ap (rowFrom ed rs e) (left 101 e h) ∙ ap (λ (k : ℕ). textFor ed rs e ++ rowFrom ed rs k (101 + 1 - (e + 1))) (sym (add-one e))
 

@@ -5,3 +5,5 @@ pub mod WriteLaws
 pub mod RecordLaws
 pub mod PrintLaws
 pub mod SameLaws
+pub mod DoneLaws
+pub mod Demand2Written

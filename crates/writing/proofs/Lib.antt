@@ -5,5 +5,6 @@ pub mod WriteLaws
 pub mod RecordLaws
 pub mod PrintLaws
 pub mod SameLaws
+pub mod BackLaws
 pub mod DoneLaws
 pub mod Demand2Written

@@ -1,0 +1,169 @@
+-- The columns of an item, spelled from what they read as, are the columns again. Assumes nothing.
+use mathlib.Core.Path.{_≡_, refl, sym, ap, _∙_}
+use mathlib.Core.Bool.{Bool, true, false, cond, not, _&&_, _||_, Bool·beq, true≢false}
+use mathlib.Core.Logic.{_⊎_, inl, inr, ⊎-elim}
+use mathlib.Core.List.{List}
+use Prim.Native.Nat.{ℕ, zero, suc, _+_, _-_, _%_, _^_, _<_, _≤_}
+use native.Mathlib.Nat.{mod-eq-of-lt, mod-eq-sub-mod}
+use native.Mathlib.Omega.{arith}
+use borrow.Author.Tests.{eqb-true, leb-true, le-leb, lt-leb}
+use lib.Dec.{eqb, leb, lit<}
+use lib.IntN.{ℤ, pos, negsuc, negℤ, natAbs}
+use lib.ListN.{length}
+use Rattle.text.specs.Bytes.{every, between, either, printable, blank, digits, number, word}
+use Rattle.text.specs.Texts.{among}
+use Rattle.text.proofs.Ways.{and-first, and-second}
+use Rattle.numerals.specs.Spelling.{spelled, spell, inDigits, inBytes, inBlanks}
+use Rattle.numerals.proofs.Backs.{digits-back, blanks-back, bytes-back, spelled-beyond}
+use Rattle.layout.specs.declared.Edition.{Edition}
+use Rattle.layout.specs.Page.{element, page, widthOf}
+use Rattle.ties.specs.Ties.{placeTie, signTie}
+use Rattle.ties.specs.Ties as Ties
+use Rattle.reading.specs.declared.Kind.the-variants.{Measured}
+use Rattle.reading.specs.declared.Reading.{Reading}
+use Rattle.reading.specs.declared.Reading.the-variants.{Missing, Code, Text, Amount, At}
+use Rattle.reading.specs.Readings.{signed, negative, alwaysText, codeOf, plain, below, kindOf, temperature, departure, south, west, east, placeOf}
+use Rattle.writing.specs.Spelled.{signDigit, amountNumeral, placeNumeral, numeralFor}
+
+-- a text that is blank, or digits whose number passes the test p
+pub data Holds (p : ℕ → Bool) (t : List ℕ) : Type 0 where
+  empty : blank t ≡ true → Holds p t
+  holds : blank t ≡ false → digits t ≡ true → p (number t) ≡ true → Holds p t
+
+pub either-of : (x y : Bool) → (x || y) ≡ true → (x ≡ true) ⊎ (y ≡ true)
+either-of true y h = inl refl
+either-of false y h = inr h
+
+-- a number from lo to hi
+pub least : (lo hi n : ℕ) → between lo hi n ≡ true → lo ≤ n
+least lo hi n e = leb-true lo n (and-first _ _ e)
+
+pub greatest : (lo hi n : ℕ) → between lo hi n ≡ true → n ≤ hi
+greatest lo hi n e = leb-true n hi (and-second (leb lo n) _ e)
+
+-- texts of which both or neither are there
+there-alike : (x y : Bool) → Bool·beq (not x) (not y) ≡ true → y ≡ x
+there-alike true true e = refl
+there-alike true false e = absurd (true≢false (sym e))
+there-alike false true e = absurd (true≢false (sym e))
+there-alike false false e = refl
+
+-- the distance from zero of a number with its sign
+pub distance : (b : Bool) (n : ℕ) → natAbs (signed b n) ≡ n
+distance true zero = refl
+distance true (suc n) = refl
+distance false n = refl
+
+-- an element by itself
+module _ (ed : Edition) (e : ℕ) (t : List ℕ) (long : length t ≡ widthOf e) (prints : every printable t ≡ true) where
+  pressure : e ≡ 20 → 10 ^ widthOf e ≡ 10000
+  unfolding element page
+  pressure h = rw h
+
+  pub plain-back : spell (widthOf e) (numeralFor ed e (plain e t)) ≡ t
+  unfolding plain numeralFor
+  plain-back = by (blank t) (digits t && not (alwaysText e)) (eqb e 20 && leb (number t) 999) refl refl refl
+    where
+      by : (x y z : Bool) → blank t ≡ x → (digits t && not (alwaysText e)) ≡ y → (eqb e 20 && leb (number t) 999) ≡ z →
+          spell (widthOf e) (numeralFor ed e (cond x Missing (cond y (Code (cond z (number t + 10000) (number t))) (Text (word t))))) ≡ t
+      by true y z p q r = blanks-back (widthOf e) t long p
+      by false true true p q r =
+          ap (λ (k : ℕ). spelled 10 48 (widthOf e) (number t + k)) (sym (pressure (eqb-true e 20 (and-first _ _ r)))) ∙
+          spelled-beyond 10 48 (lit< tt) (widthOf e) (number t) ∙
+          digits-back (widthOf e) t long (and-first _ _ q)
+      by false true false p q r = digits-back (widthOf e) t long (and-first _ _ q)
+      by false false z p q r = bytes-back (widthOf e) t long prints
+
+-- the sign that is written is the sign that was read: 1 and 6 stand with no zero
+digit-kept : (n m : ℕ) → either 0 2 5 7 n ≡ true → not (Ties.negative n && eqb m 0) ≡ true → signDigit (negative (signed (below n) m)) (kindOf n) ≡ n
+digit-kept zero m p z = refl
+digit-kept (suc zero) zero p z = absurd (true≢false (sym z))
+digit-kept (suc zero) (suc m) p z = refl
+digit-kept (suc (suc zero)) m p z = refl
+digit-kept (suc (suc (suc zero))) m p z = absurd (true≢false (sym p))
+digit-kept (suc (suc (suc (suc zero)))) m p z = absurd (true≢false (sym p))
+digit-kept (suc (suc (suc (suc (suc zero))))) m p z = refl
+digit-kept (suc (suc (suc (suc (suc (suc zero)))))) zero p z = absurd (true≢false (sym z))
+digit-kept (suc (suc (suc (suc (suc (suc zero)))))) (suc m) p z = refl
+digit-kept (suc (suc (suc (suc (suc (suc (suc zero))))))) m p z = refl
+digit-kept (suc (suc (suc (suc (suc (suc (suc (suc n)))))))) m p z =
+    let k : ℕ = suc (suc (suc (suc (suc (suc (suc (suc n))))))) in
+    absurd (⊎-elim (λ a. let l = greatest 0 2 k a in omega arith) (λ a. let l = greatest 5 7 k a in omega arith) (either-of (between 0 2 k) (between 5 7 k) p))
+
+-- a sign and its temperature
+module _ (ed : Edition) (s v : List ℕ) (tied : signTie s v ≡ true) where
+  alike : blank v ≡ blank s
+  unfolding signTie
+  alike = there-alike _ _ (and-first _ _ tied)
+
+  no-minus-zero : not (Ties.negative (number s) && eqb (number v) 0) ≡ true
+  unfolding signTie
+  no-minus-zero = and-second (Bool·beq (not (blank s)) (not (blank v))) _ tied
+
+  pub sign-back : (e : ℕ) → among 16 18 28 50 e ≡ true → length s ≡ widthOf e → Holds (either 0 2 5 7) s → spell (widthOf e) (numeralFor ed e (temperature s v)) ≡ s
+  unfolding temperature numeralFor amountNumeral
+  sign-back e g l (empty a) = rw a (blanks-back (widthOf e) s l a)
+  sign-back e g l (holds a d p) = rw (a, alike ∙ a, g, digit-kept (number s) (number v) p no-minus-zero) (digits-back (widthOf e) s l d)
+
+  pub value-back : (e : ℕ) → among 16 18 28 50 e ≡ false → among 17 19 29 51 e ≡ true → length v ≡ widthOf e → Holds (between 0 999) v →
+      spell (widthOf e) (numeralFor ed e (temperature s v)) ≡ v
+  unfolding temperature numeralFor amountNumeral
+  value-back e f g l (empty a) = rw (sym alike ∙ a) (blanks-back (widthOf e) v l a)
+  value-back e f g l (holds a d p) = rw (sym alike ∙ a, a, f, g, distance (below (number s)) (number v)) (digits-back (widthOf e) v l d)
+
+-- element 91
+departed : (n : ℕ) → either 0 99 101 199 n ≡ true →
+    cond (negative (signed (leb 100 n) (n % 100))) (natAbs (signed (leb 100 n) (n % 100)) + 100) (natAbs (signed (leb 100 n) (n % 100))) ≡ n
+departed n p = ⊎-elim low high (either-of (between 0 99 n) (between 101 199 n) p)
+  where
+    low : between 0 99 n ≡ true → cond (negative (signed (leb 100 n) (n % 100))) (natAbs (signed (leb 100 n) (n % 100)) + 100) (natAbs (signed (leb 100 n) (n % 100))) ≡ n
+    low a = let l = greatest 0 99 n a in rw (lt-leb 100 n (omega arith), mod-eq-of-lt {n = n} {m = 100} (omega arith))
+
+    high : between 101 199 n ≡ true → cond (negative (signed (leb 100 n) (n % 100))) (natAbs (signed (leb 100 n) (n % 100)) + 100) (natAbs (signed (leb 100 n) (n % 100))) ≡ n
+    high a =
+        let l = least 101 199 n a in
+        let h = greatest 101 199 n a in
+        let less : n - 100 < 100 = omega arith in
+        let part : n % 100 ≡ suc (n - 101) = mod-eq-sub-mod {n = n} {m = 100} (omega arith) ∙ mod-eq-of-lt less ∙ (let s : n - 100 ≡ suc (n - 101) = omega arith in s) in
+        let sum : suc (n - 101) + 100 ≡ n = omega arith in
+        rw (le-leb 100 n (omega arith), part) sum
+
+pub departure-back : (ed : Edition) (t : List ℕ) → length t ≡ widthOf 91 → Holds (either 0 99 101 199) t → spell (widthOf 91) (numeralFor ed 91 (departure t)) ≡ t
+unfolding departure numeralFor amountNumeral
+departure-back ed t l (empty a) = rw a (blanks-back (widthOf 91) t l a)
+departure-back ed t l (holds a d p) = rw (a, departed (number t) p) (digits-back (widthOf 91) t l d)
+
+-- turned twice a longitude is what it was
+turned-back : (w : Bool) (l : ℕ) → l ≤ 1800 → east w (east w l) ≡ l
+turned-back false l h = refl
+turned-back true zero h = refl
+turned-back true (suc l) h =
+    let back : 3600 - (3600 - suc l) ≡ suc l = omega arith in
+    rw (mod-eq-of-lt {n = 3600 - suc l} {m = 3600} (omega arith), back) (mod-eq-of-lt {n = suc l} {m = 3600} (omega arith))
+
+-- column 12, latitude and longitude
+module _ (ed : Edition) (q la lo : List ℕ) (tied : placeTie q la lo ≡ true) where
+  first-two : blank la ≡ blank q
+  unfolding placeTie
+  first-two = there-alike _ _ (and-first _ _ tied)
+
+  last-two : blank lo ≡ blank la
+  unfolding placeTie
+  last-two = there-alike _ _ (and-second (Bool·beq (not (blank q)) (not (blank la))) _ tied)
+
+  pub digit-back : (p : ℕ → Bool) → length q ≡ widthOf 6 → Holds p q → spell (widthOf 6) (numeralFor ed 6 (placeOf ed q la lo)) ≡ q
+  unfolding placeOf numeralFor placeNumeral
+  digit-back p l (empty a) = rw a (blanks-back (widthOf 6) q l a)
+  digit-back p l (holds a d t) = rw (a, first-two ∙ a, last-two ∙ first-two ∙ a) (digits-back (widthOf 6) q l d)
+
+  pub latitude-back : (p : ℕ → Bool) → length la ≡ widthOf 7 → Holds p la → spell (widthOf 7) (numeralFor ed 7 (placeOf ed q la lo)) ≡ la
+  unfolding placeOf numeralFor placeNumeral
+  latitude-back p l (empty a) = rw (sym first-two ∙ a) (blanks-back (widthOf 7) la l a)
+  latitude-back p l (holds a d t) =
+      rw (sym first-two ∙ a, a, last-two ∙ a, distance (south ed (number q)) (number la)) (digits-back (widthOf 7) la l d)
+
+  pub longitude-back : length lo ≡ widthOf 8 → Holds (between 0 1800) lo → spell (widthOf 8) (numeralFor ed 8 (placeOf ed q la lo)) ≡ lo
+  unfolding placeOf numeralFor placeNumeral
+  longitude-back l (empty a) = rw (sym first-two ∙ sym last-two ∙ a) (blanks-back (widthOf 8) lo l a)
+  longitude-back l (holds a d t) =
+      rw (sym first-two ∙ sym last-two ∙ a, sym last-two ∙ a, a, turned-back (west ed (number q)) (number lo) (greatest 0 1800 (number lo) t)) (digits-back (widthOf 8) lo l d)

@@ -6,5 +6,7 @@ pub mod RecordLaws
 pub mod PrintLaws
 pub mod SameLaws
 pub mod BackLaws
+pub mod ElementLaws
 pub mod DoneLaws
 pub mod Demand2Written
+pub mod Demand2Back

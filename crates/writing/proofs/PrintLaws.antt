@@ -102,7 +102,7 @@ allowed-prints (Either a b c d) p t e = digits-print t (and-first _ _ e)
 allowed-prints (OneOf a b c d) p t e = digits-print t (and-first _ _ e)
 
 -- a legal text is blank or allowed
-legal-prints : (ed : Edition) (xs : List ℕ) (e : ℕ) → legal ed xs e ≡ true → every printable (textOf e xs) ≡ true
+pub legal-prints : (ed : Edition) (xs : List ℕ) (e : ℕ) → legal ed xs e ≡ true → every printable (textOf e xs) ≡ true
 unfolding legal
 legal-prints ed xs e h = by (mayBeBlank e) (blank (textOf e xs)) refl h
   where

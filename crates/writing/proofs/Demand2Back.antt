@@ -1,0 +1,65 @@
+-- Demand 2: reading a record and writing it back gives the same characters. Assumes nothing.
+use mathlib.Core.Path.{_≡_, refl, ap, _∙_}
+use mathlib.Core.Bool.{Bool, true, false}
+use mathlib.Core.List.{List, _++_}
+use Prim.Native.Nat.{ℕ, _+_, _-_, _≤_}
+use native.Mathlib.Omega.{arith}
+use borrow.Author.Tests.{leb-true, leb-false}
+use lib.Dec.{leb}
+use lib.ListN.{length, drop}
+use Rattle.numerals.specs.Spelling.{spell}
+use Rattle.layout.specs.declared.Edition.{Edition}
+use Rattle.layout.specs.declared.Named.the-variants.{Known}
+use Rattle.layout.specs.Editions.{asked, lengthOf, lastOf}
+use Rattle.layout.specs.Page.{widthOf, textOf, legal}
+use Rattle.layout.proofs.Elements.{last-below}
+use Rattle.layout.proofs.Beyond.{legal-none}
+use Rattle.ties.specs.Ties.{tie}
+use Rattle.checking.specs.Acceptable.{Acceptable}
+use Rattle.reading.specs.declared.Reading.{Reading}
+use Rattle.reading.specs.Readings.{lead, itemOf, readingOf}
+use Rattle.reading.proofs.ReadingLaws.{lead-is}
+use Rattle.writing.specs.declared.Outcome.the-variants.{Done}
+use Rattle.writing.specs.Spelled.{numeralFor, given, recordOf}
+use Rattle.writing.specs.Written.{writes, writtenIn, written, filledBy, afterAs, after}
+use Rattle.writing.proofs.SameLaws.{same-self}
+use Rattle.writing.proofs.RecordLaws.{record-long, record-text, same-record}
+use Rattle.writing.proofs.DoneLaws.{means-done}
+use Rattle.writing.proofs.ElementLaws.{lead-of-lead, element-back}
+
+-- readings that are what the elements of an acceptable record read as
+module _ (ed : Edition) (xs : List ℕ) (a : Acceptable ed xs) (rs : List Reading) (as-read : (e : ℕ) → 1 ≤ e → e ≤ 101 → given rs e ≡ readingOf ed xs e) where
+  text-back : (e : ℕ) → 1 ≤ e → e ≤ lastOf ed → textOf e (recordOf ed rs) ≡ textOf e xs
+  text-back e l h =
+      let low = lead-is e l in
+      let reads : given rs (lead e) ≡ readingOf ed xs e =
+      as-read (lead e) (low .low) (omega (arith, low .high, last-below ed)) ∙ ap (itemOf ed xs) (lead-of-lead e) in
+      record-text ed rs e l h ∙ ap (λ (r : Reading). spell (widthOf e) (numeralFor ed e r)) reads ∙ element-back ed xs a e l h
+
+  pub record-back : recordOf ed rs ≡ xs
+  record-back = same-record ed (recordOf ed rs) xs text-back (record-long ed rs) (a .full)
+
+  all-legal : (e : ℕ) → 1 ≤ e → legal ed xs e ≡ true
+  all-legal e l = by (leb e (lastOf ed)) refl
+    where
+      by : (t : Bool) → leb e (lastOf ed) ≡ t → legal ed xs e ≡ true
+      by true f = a .lawful e l (leb-true _ _ f)
+      by false f = legal-none ed xs (a .full) e (leb-false _ _ f)
+
+  each-written : (e : ℕ) → 1 ≤ e → e ≤ 101 → writes ed rs xs e ≡ true
+  unfolding writes
+  each-written e l h = rw (all-legal e l, as-read e l h) (same-self (readingOf ed xs e))
+
+  -- written to its own edition, where there is room, they are taken, and the record is the one that was read
+  pub written-back : (room : ℕ) → lengthOf ed ≤ room → writtenIn ed rs room ≡ Done
+  written-back room h = means-done ed rs room
+      (record {
+        each = λ e l m. ap (λ (ys : List ℕ). writes ed rs ys e) record-back ∙ each-written e l (omega arith);
+        tied = λ k l m. ap (λ (ys : List ℕ). tie ed ys k) record-back ∙ a .tied k l (omega arith);
+        held = h;
+      })
+
+  -- the lent buffer then begins with the record's characters, and the rest of it is what it was
+  pub buffer-back : (edition : ℕ) → asked edition ≡ Known ed → (before : List ℕ) → lengthOf ed ≤ length before → after rs edition before ≡ xs ++ drop (lengthOf ed) before
+  unfolding afterAs filledBy
+  buffer-back edition e before h = rw (e, written-back (length before) h, record-back)

@@ -1,0 +1,187 @@
+-- The columns of each element of an acceptable record, spelled from its reading, are its columns again. Assumes nothing.
+use mathlib.Core.Path.{_≡_, refl, sym, ap, _∙_}
+use mathlib.Core.Bool.{Bool, true, false, _&&_, _||_}
+use mathlib.Core.Logic.{⊎-elim}
+use mathlib.Core.List.{List}
+use Prim.Native.Nat.{ℕ, _+_, _-_, _≤_}
+use native.Mathlib.Omega.{arith}
+use borrow.Author.Tests.{eqb-true, le-leb}
+use lib.Dec.{eqb, lit≤}
+use lib.ListN.{length, drop, length-drop}
+use lib.Seq.{length-take-le}
+use Rattle.text.specs.Bytes.{between, either, blank, digits, number}
+use Rattle.text.specs.declared.Texts.{Texts}
+use Rattle.text.specs.declared.Texts.the-variants.{Within, Either}
+use Rattle.text.specs.Texts.{among, allows}
+use Rattle.text.proofs.Ways.{and-first, and-second}
+use Rattle.numerals.specs.Spelling.{spell}
+use Rattle.layout.specs.declared.Edition.{Edition}
+use Rattle.layout.specs.declared.Edition.the-variants.{One, Three, Four}
+use Rattle.layout.specs.Editions.{lastOf}
+use Rattle.layout.specs.Page.{page, element, widthOf, startOf, textOf, textsOf, mayBeBlank, legal}
+use Rattle.layout.proofs.Columns.{start-next, start-rises, filled}
+use Rattle.ties.specs.Ties.{tie, signTie}
+use Rattle.checking.specs.Acceptable.{Acceptable}
+use Rattle.reading.specs.declared.Reading.{Reading}
+use Rattle.reading.specs.Readings.{temperature, lead, itemOf, readingOf}
+use Rattle.writing.specs.Same.{same}
+use Rattle.writing.specs.Spelled.{numeralFor}
+use Rattle.writing.proofs.PrintLaws.{legal-prints}
+use Rattle.writing.proofs.BackLaws.{Holds, empty, holds, either-of, greatest, plain-back, sign-back, value-back, departure-back, digit-back, latitude-back, longitude-back}
+
+pub at-number : (P : ℕ → Type 0) (n k : ℕ) → eqb n k ≡ true → P k → P n
+at-number P n k e p = rw (eqb-true n k e) p
+
+-- what holds at each of four numbers holds at one of the four
+pub among-cases : (P : ℕ → Type 0) (a b c d n : ℕ) → P a → P b → P c → P d → among a b c d n ≡ true → P n
+among-cases P a b c d n p q r s h =
+    ⊎-elim
+    (λ x. ⊎-elim (λ y. ⊎-elim (λ z. rw (eqb-true n a z) p) (λ z. rw (eqb-true n b z) q) (either-of _ _ y)) (λ y. rw (eqb-true n c y) r) (either-of _ _ x))
+    (λ x. rw (eqb-true n d x) s)
+    (either-of _ _ h)
+
+-- elements share the reading of one that shares its own with none lower
+pub lead-of-lead : (e : ℕ) → lead (lead e) ≡ lead e
+lead-of-lead e = by (among 7 8 7 8 e) (among 17 19 29 51 e) refl refl
+  where
+    by : (x y : Bool) → among 7 8 7 8 e ≡ x → among 17 19 29 51 e ≡ y → lead (lead e) ≡ lead e
+    by true y p q = among-cases (λ k. lead (lead k) ≡ lead k) 7 8 7 8 e refl refl refl refl p
+    by false true p q = among-cases (λ k. lead (lead k) ≡ lead k) 17 19 29 51 e refl refl refl refl q
+    by false false p q = rw (p, q, p, q)
+
+-- a text that is legal in digits
+pub in-digits : (p : ℕ → Bool) (ed : Edition) (xs : List ℕ) (e : ℕ) → allows (textsOf ed e) (textOf e xs) ≡ (digits (textOf e xs) && p (number (textOf e xs))) →
+    legal ed xs e ≡ true → Holds p (textOf e xs)
+unfolding legal
+in-digits p ed xs e f h = by (mayBeBlank e) (blank (textOf e xs)) refl h
+  where
+    allowed : blank (textOf e xs) ≡ false → allows (textsOf ed e) (textOf e xs) ≡ true → Holds p (textOf e xs)
+    allowed b g = let k = sym f ∙ g in holds b (and-first _ _ k) (and-second (digits (textOf e xs)) _ k)
+
+    by : (x y : Bool) → blank (textOf e xs) ≡ y → ((x && y) || allows (textsOf ed e) (textOf e xs)) ≡ true → Holds p (textOf e xs)
+    by x true b g = empty b
+    by true false b g = allowed b g
+    by false false b g = allowed b g
+
+-- the texts of an element that are the same in all editions
+pub in-each : (ed : Edition) (e : ℕ) (s : Texts) → element e .in1 ≡ s → element e .in3 ≡ s → element e .in4 ≡ s → textsOf ed e ≡ s
+in-each One e s p q r = p
+in-each Three e s p q r = q
+in-each Four e s p q r = r
+
+-- the elements with a sign, a temperature, a place and the departure of a record in which they are legal
+module _ (ed : Edition) (xs : List ℕ) where
+  abbrev Legal : ℕ → Type 0
+  Legal e = legal ed xs e ≡ true
+
+  pub few-signs : (e : ℕ) → textsOf ed e ≡ Within 0 1 → Legal e → Holds (either 0 2 5 7) (textOf e xs)
+  unfolding allows
+  few-signs e f h = wider (in-digits (between 0 1) ed xs e (rw f) h)
+    where
+      more : (n : ℕ) → between 0 1 n ≡ true → either 0 2 5 7 n ≡ true
+      more n k = let l = greatest 0 1 n k in rw (le-leb 0 n (omega arith), le-leb n 2 (omega arith))
+
+      wider : Holds (between 0 1) (textOf e xs) → Holds (either 0 2 5 7) (textOf e xs)
+      wider (empty b) = empty b
+      wider (holds b d p) = holds b d (more (number (textOf e xs)) p)
+
+  pub signs : (e : ℕ) → textsOf ed e ≡ Either 0 2 5 7 → Legal e → Holds (either 0 2 5 7) (textOf e xs)
+  unfolding allows
+  signs e f h = in-digits (either 0 2 5 7) ed xs e (rw f) h
+
+  pub within : (a b e : ℕ) → textsOf ed e ≡ Within a b → Legal e → Holds (between a b) (textOf e xs)
+  unfolding allows
+  within a b e f h = in-digits (between a b) ed xs e (rw f) h
+
+-- column 12: octants in edition 1, quadrants in the others
+pub hemispheres : Edition → ℕ → Bool
+hemispheres One = either 0 3 5 8
+hemispheres Three = among 1 3 5 7
+hemispheres Four = among 1 3 5 7
+
+pub of-hemispheres : (ed : Edition) (t : List ℕ) → allows (textsOf ed 6) t ≡ (digits t && hemispheres ed (number t))
+unfolding element page allows hemispheres
+of-hemispheres One t = refl
+of-hemispheres Three t = refl
+of-hemispheres Four t = refl
+
+pub departures : (ed : Edition) (xs : List ℕ) → 91 ≤ lastOf ed → legal ed xs 91 ≡ true → Holds (either 0 99 101 199) (textOf 91 xs)
+unfolding element page allows
+departures One xs l h = absurd (omega arith)
+departures Three xs l h = in-digits (either 0 99 101 199) Three xs 91 refl h
+departures Four xs l h = in-digits (either 0 99 101 199) Four xs 91 refl h
+
+-- the columns of each element of an acceptable record, spelled from its reading
+module _ (ed : Edition) (xs : List ℕ) (a : Acceptable ed xs) where
+  pub text-long : (e : ℕ) → e ≤ lastOf ed → length (textOf e xs) ≡ widthOf e
+  unfolding textOf
+  text-long e h =
+      length-take-le (widthOf e) (drop (startOf e) xs)
+      (rw length-drop (omega (arith, a .full, start-next e, start-rises (e + 1) (lastOf ed + 1) (omega arith), filled ed)))
+
+  abbrev Back : ℕ → Type 0
+  Back e = e ≤ lastOf ed → spell (widthOf e) (numeralFor ed e (readingOf ed xs e)) ≡ textOf e xs
+
+  sign-at : (e f : ℕ) → readingOf ed xs e ≡ temperature (textOf e xs) (textOf f xs) → among 16 18 28 50 e ≡ true → signTie (textOf e xs) (textOf f xs) ≡ true →
+      (Legal ed xs e → Holds (either 0 2 5 7) (textOf e xs)) → 1 ≤ e → Back e
+  sign-at e f r g t k p h =
+      ap (λ (x : Reading). spell (widthOf e) (numeralFor ed e x)) r ∙ sign-back ed (textOf e xs) (textOf f xs) t e g (text-long e h) (k (a .lawful e p h))
+
+  value-at : (e f : ℕ) → readingOf ed xs f ≡ temperature (textOf e xs) (textOf f xs) → among 16 18 28 50 f ≡ false → among 17 19 29 51 f ≡ true →
+      signTie (textOf e xs) (textOf f xs) ≡ true → textsOf ed f ≡ Within 0 999 → 1 ≤ f → Back f
+  value-at e f r n g t k p h =
+      ap (λ (x : Reading). spell (widthOf f) (numeralFor ed f x)) r ∙
+      value-back ed (textOf e xs) (textOf f xs) t f n g (text-long f h) (within ed xs 0 999 f k (a .lawful f p h))
+
+  signs-back : (e : ℕ) → among 16 18 28 50 e ≡ true → Back e
+  unfolding itemOf tie element page
+  signs-back e = among-cases Back 16 18 28 50 e
+      (sign-at 16 17 refl refl (a .tied 3 (lit≤ tt) (lit≤ tt)) (few-signs ed xs 16 (in-each ed 16 (Within 0 1) refl refl refl)) (lit≤ tt))
+      (sign-at 18 19 refl refl (a .tied 4 (lit≤ tt) (lit≤ tt)) (signs ed xs 18 (in-each ed 18 (Either 0 2 5 7) refl refl refl)) (lit≤ tt))
+      (sign-at 28 29 refl refl (a .tied 5 (lit≤ tt) (lit≤ tt)) (few-signs ed xs 28 (in-each ed 28 (Within 0 1) refl refl refl)) (lit≤ tt))
+      (sign-at 50 51 refl refl (a .tied 6 (lit≤ tt) (lit≤ tt)) (signs ed xs 50 (in-each ed 50 (Either 0 2 5 7) refl refl refl)) (lit≤ tt))
+
+  values-back : (e : ℕ) → among 17 19 29 51 e ≡ true → Back e
+  unfolding itemOf tie element page
+  values-back e = among-cases Back 17 19 29 51 e
+      (value-at 16 17 refl refl refl (a .tied 3 (lit≤ tt) (lit≤ tt)) (in-each ed 17 (Within 0 999) refl refl refl) (lit≤ tt))
+      (value-at 18 19 refl refl refl (a .tied 4 (lit≤ tt) (lit≤ tt)) (in-each ed 19 (Within 0 999) refl refl refl) (lit≤ tt))
+      (value-at 28 29 refl refl refl (a .tied 5 (lit≤ tt) (lit≤ tt)) (in-each ed 29 (Within 0 999) refl refl refl) (lit≤ tt))
+      (value-at 50 51 refl refl refl (a .tied 6 (lit≤ tt) (lit≤ tt)) (in-each ed 51 (Within 0 999) refl refl refl) (lit≤ tt))
+
+  hemisphere-back : Back 6
+  unfolding itemOf tie
+  hemisphere-back h =
+      digit-back ed (textOf 6 xs) (textOf 7 xs) (textOf 8 xs) (a .tied 1 (lit≤ tt) (lit≤ tt)) (hemispheres ed) (text-long 6 h)
+      (in-digits (hemispheres ed) ed xs 6 (of-hemispheres ed (textOf 6 xs)) (a .lawful 6 (lit≤ tt) h))
+
+  place-back : (e : ℕ) → among 7 8 7 8 e ≡ true → Back e
+  unfolding itemOf tie element page
+  place-back e = among-cases Back 7 8 7 8 e latitude longitude latitude longitude
+    where
+      latitude : Back 7
+      latitude h =
+          latitude-back ed (textOf 6 xs) (textOf 7 xs) (textOf 8 xs) (a .tied 1 (lit≤ tt) (lit≤ tt)) (between 0 900) (text-long 7 h)
+          (within ed xs 0 900 7 (in-each ed 7 (Within 0 900) refl refl refl) (a .lawful 7 (lit≤ tt) h))
+
+      longitude : Back 8
+      longitude h =
+          longitude-back ed (textOf 6 xs) (textOf 7 xs) (textOf 8 xs) (a .tied 1 (lit≤ tt) (lit≤ tt)) (text-long 8 h)
+          (within ed xs 0 1800 8 (in-each ed 8 (Within 0 1800) refl refl refl) (a .lawful 8 (lit≤ tt) h))
+
+  departed-back : Back 91
+  unfolding itemOf
+  departed-back h = departure-back ed (textOf 91 xs) (text-long 91 h) (departures ed xs h (a .lawful 91 (lit≤ tt) h))
+
+  pub element-back : (e : ℕ) → 1 ≤ e → Back e
+  unfolding itemOf
+  element-back e l h = by (among 7 8 7 8 e) (among 17 19 29 51 e) (eqb e 6) (among 16 18 28 50 e) (eqb e 91) refl refl refl refl refl
+    where
+      by : (p q r s t : Bool) → among 7 8 7 8 e ≡ p → among 17 19 29 51 e ≡ q → eqb e 6 ≡ r → among 16 18 28 50 e ≡ s → eqb e 91 ≡ t →
+          spell (widthOf e) (numeralFor ed e (readingOf ed xs e)) ≡ textOf e xs
+      by true q r s t f g i j k = place-back e f h
+      by false true r s t f g i j k = values-back e g h
+      by false false true s t f g i j k = at-number Back e 6 i hemisphere-back h
+      by false false false true t f g i j k = signs-back e j h
+      by false false false false true f g i j k = at-number Back e 91 k departed-back h
+      by false false false false false f g i j k = rw (f, g, i, j, k) (plain-back ed e (textOf e xs) (text-long e h) (legal-prints ed xs e (a .lawful e l h)))

@@ -28,7 +28,7 @@ pub width-past : (e : ℕ) → 101 < e → 0 ≡ widthOf e
 unfolding element page
 width-past e h = rw (List·getD-eq-default elements none h)
 
-last-above : (ed : Edition) → 85 ≤ lastOf ed
+pub last-above : (ed : Edition) → 85 ≤ lastOf ed
 last-above One = lit≤ tt
 last-above Three = lit≤ tt
 last-above Four = lit≤ tt

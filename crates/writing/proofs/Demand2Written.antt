@@ -12,7 +12,7 @@ use Rattle.layout.specs.declared.Edition.{Edition}
 use Rattle.layout.specs.declared.Edition.the-variants.{One, Three, Four}
 use Rattle.layout.specs.Editions.{lengthOf, lastOf, editionOf}
 use Rattle.layout.specs.Page.{legal}
-use Rattle.layout.proofs.Elements.{last-below}
+use Rattle.layout.proofs.Beyond.{last-above}
 use Rattle.checking.specs.declared.Answer.the-variants.{Accepted}
 use Rattle.checking.specs.Check.{column, printableAt, knownFormat, checked}
 use Rattle.checking.specs.Acceptable.{Acceptable}
@@ -21,50 +21,34 @@ use Rattle.checking.proofs.Demand2Acceptance.{accepted-exactly}
 use Rattle.reading.specs.declared.Reading.{Reading}
 use Rattle.reading.specs.Readings.{readingOf}
 use Rattle.writing.specs.declared.Outcome.the-variants.{Done}
-use Rattle.writing.specs.Same.{same}
 use Rattle.writing.specs.Spelled.{given, recordOf}
 use Rattle.writing.specs.Written.{writes, writtenIn}
-use Rattle.writing.proofs.SameLaws.{same-equal}
 use Rattle.writing.proofs.RecordLaws.{record-long}
 use Rattle.writing.proofs.PrintLaws.{record-prints, format-digit, edition-digit}
+use Rattle.writing.proofs.EachLaws.{every-legal, as-given}
 use Rattle.writing.proofs.DoneLaws.{Writable, done-means}
 
--- the shortest record has 131 columns, and element 65 is within every edition
+-- the shortest record has 131 columns
 shortest : (ed : Edition) → 131 ≤ lengthOf ed
 shortest One = omega arith
 shortest Three = omega arith
 shortest Four = omega arith
 
-to-65 : (ed : Edition) → 65 ≤ lastOf ed
-to-65 One = omega arith
-to-65 Three = omega arith
-to-65 Four = omega arith
-
 module _ (ed : Edition) (rs : List Reading) (room : ℕ) (w : Writable ed rs room) where
-  both : (e : ℕ) → 1 ≤ e → e ≤ 101 → (legal ed (recordOf ed rs) e && same (readingOf ed (recordOf ed rs) e) (given rs e)) ≡ true
-  unfolding writes
-  both e h l = w .each e h (omega arith)
-
-  every-legal : (e : ℕ) → 1 ≤ e → e ≤ lastOf ed → legal ed (recordOf ed rs) e ≡ true
-  every-legal e h l = and-first _ _ (both e h (omega (arith, last-below ed)))
-
   acceptable : Acceptable ed (recordOf ed rs)
   acceptable =
       let long = record-long ed rs in
+      let legal-each = every-legal ed rs (w .each) in
       let short = shortest ed in
-      let past = to-65 ed in
-      let prints = record-prints ed (recordOf ed rs) long every-legal in
+      let prints = record-prints ed (recordOf ed rs) long legal-each in
       record {
-        names = ap editionOf (column-at (recordOf ed rs) 111 (omega arith) (omega arith)) ∙ edition-digit ed (recordOf ed rs) (omega arith) (every-legal 65 (omega arith) past);
+        names = ap editionOf (column-at (recordOf ed rs) 111 (omega arith) (omega arith)) ∙ edition-digit ed (recordOf ed rs) (omega arith) (legal-each 65 (omega arith) (omega (arith, last-above ed)));
         full = long;
         prints = λ c h l. ap printable (column-at (recordOf ed rs) c h l) ∙ every-at printable (recordOf ed rs) prints (c - 1) (omega arith);
-        format = ap knownFormat (column-at (recordOf ed rs) 1 (omega arith) (omega arith)) ∙ format-digit ed (recordOf ed rs) (omega arith) (every-legal 1 (omega arith) (omega arith));
-        lawful = every-legal;
+        format = ap knownFormat (column-at (recordOf ed rs) 1 (omega arith) (omega arith)) ∙ format-digit ed (recordOf ed rs) (omega arith) (legal-each 1 (omega arith) (omega (arith, last-above ed)));
+        lawful = legal-each;
         tied = λ k h l. w .tied k h (omega arith);
       }
-
-  as-given : (e : ℕ) → 1 ≤ e → e ≤ 101 → readingOf ed (recordOf ed rs) e ≡ given rs e
-  as-given e h l = same-equal _ _ (and-second (legal ed (recordOf ed rs) e) _ (both e h l))
 
 -- check accepts what was written
 pub written-is-accepted : (ed : Edition) (rs : List Reading) (room : ℕ) → writtenIn ed rs room ≡ Done → checked (recordOf ed rs) ≡ Accepted ed
@@ -72,4 +56,4 @@ written-is-accepted ed rs room e = accepted-exactly (recordOf ed rs) ed .1 (acce
 
 -- each element of it reads as the reading that was given
 pub written-reads-as-given : (ed : Edition) (rs : List Reading) (room : ℕ) → writtenIn ed rs room ≡ Done → (e : ℕ) → 1 ≤ e → e ≤ 101 → readingOf ed (recordOf ed rs) e ≡ given rs e
-written-reads-as-given ed rs room d e h l = as-given ed rs room (done-means ed rs room d) e h l
+written-reads-as-given ed rs room d e h l = as-given ed rs (done-means ed rs room d .each) e h l

@@ -7,6 +7,8 @@ pub mod PrintLaws
 pub mod SameLaws
 pub mod BackLaws
 pub mod ElementLaws
+pub mod EachLaws
 pub mod DoneLaws
 pub mod Demand2Written
 pub mod Demand2Back
+pub mod Demand2Ties

@@ -53,11 +53,9 @@ module _ (ed : Edition) (xs : List ℕ) (a : Acceptable ed xs) (rs : List Readin
   -- written to its own edition, where there is room, they are taken, and the record is the one that was read
   pub written-back : (room : ℕ) → lengthOf ed ≤ room → writtenIn ed rs room ≡ Done
   written-back room h = means-done ed rs room
-      (record {
-        each = λ e l m. ap (λ (ys : List ℕ). writes ed rs ys e) record-back ∙ each-written e l (omega arith);
-        tied = λ k l m. ap (λ (ys : List ℕ). tie ed ys k) record-back ∙ a .tied k l (omega arith);
-        held = h;
-      })
+      (λ e l m. ap (λ (ys : List ℕ). writes ed rs ys e) record-back ∙ each-written e l (omega arith))
+      (λ k l m. ap (λ (ys : List ℕ). tie ed ys k) record-back ∙ a .tied k l (omega arith))
+      h
 
   -- the lent buffer then begins with the record's characters, and the rest of it is what it was
   pub buffer-back : (edition : ℕ) → asked edition ≡ Known ed → (before : List ℕ) → lengthOf ed ≤ length before → after rs edition before ≡ xs ++ drop (lengthOf ed) before

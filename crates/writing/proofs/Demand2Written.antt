@@ -26,7 +26,7 @@ use Rattle.writing.specs.Written.{writes, writtenIn}
 use Rattle.writing.proofs.RecordLaws.{record-long}
 use Rattle.writing.proofs.PrintLaws.{record-prints, format-digit, edition-digit}
 use Rattle.writing.proofs.EachLaws.{every-legal, as-given}
-use Rattle.writing.proofs.DoneLaws.{Writable, done-means}
+use Rattle.writing.proofs.DoneLaws.{WritesBelow, TiedBelow, done-means}
 
 -- the shortest record has 131 columns
 shortest : (ed : Edition) → 131 ≤ lengthOf ed
@@ -34,11 +34,11 @@ shortest One = omega arith
 shortest Three = omega arith
 shortest Four = omega arith
 
-module _ (ed : Edition) (rs : List Reading) (room : ℕ) (w : Writable ed rs room) where
+module _ (ed : Edition) (rs : List Reading) (each : WritesBelow ed rs (1 + 101)) (all : TiedBelow ed rs (1 + 9)) where
   acceptable : Acceptable ed (recordOf ed rs)
   acceptable =
       let long = record-long ed rs in
-      let legal-each = every-legal ed rs (w .each) in
+      let legal-each = every-legal ed rs each in
       let short = shortest ed in
       let prints = record-prints ed (recordOf ed rs) long legal-each in
       record {
@@ -47,13 +47,13 @@ module _ (ed : Edition) (rs : List Reading) (room : ℕ) (w : Writable ed rs roo
         prints = λ c h l. ap printable (column-at (recordOf ed rs) c h l) ∙ every-at printable (recordOf ed rs) prints (c - 1) (omega arith);
         format = ap knownFormat (column-at (recordOf ed rs) 1 (omega arith) (omega arith)) ∙ format-digit ed (recordOf ed rs) (omega arith) (legal-each 1 (omega arith) (omega (arith, last-above ed)));
         lawful = legal-each;
-        tied = λ k h l. w .tied k h (omega arith);
+        tied = λ k h l. all k h (omega arith);
       }
 
 -- check accepts what was written
 pub written-is-accepted : (ed : Edition) (rs : List Reading) (room : ℕ) → writtenIn ed rs room ≡ Done → checked (recordOf ed rs) ≡ Accepted ed
-written-is-accepted ed rs room e = accepted-exactly (recordOf ed rs) ed .1 (acceptable ed rs room (done-means ed rs room e))
+written-is-accepted ed rs room e = let w = done-means ed rs room e in accepted-exactly (recordOf ed rs) ed .1 (acceptable ed rs (w .0) (w .1))
 
 -- each element of it reads as the reading that was given
 pub written-reads-as-given : (ed : Edition) (rs : List Reading) (room : ℕ) → writtenIn ed rs room ≡ Done → (e : ℕ) → 1 ≤ e → e ≤ 101 → readingOf ed (recordOf ed rs) e ≡ given rs e
-written-reads-as-given ed rs room d e h l = as-given ed rs (done-means ed rs room d .each) e h l
+written-reads-as-given ed rs room d e h l = as-given ed rs (done-means ed rs room d .0) e h l

@@ -1,14 +1,13 @@
--- What it takes to write: every element's text is legal and reads as it was given, every tie holds, and there is room. Assumes nothing.
+-- What an outcome says: the lowest element that is not written, the lowest tie that is broken, no room, or that everything was kept. Assumes nothing.
 use mathlib.Core.Path.{_≡_, refl, sym, ap, _∙_}
 use mathlib.Core.Bool.{Bool, true, false, cond, true≢false}
 use mathlib.Core.List.{List}
 use Prim.Native.Nat.{ℕ, _+_, _<_, _≤_}
 use native.Mathlib.Omega.{arith}
-use borrow.Author.Tests.{ne-eqb, leb-true, le-leb}
+use borrow.Author.Tests.{ne-eqb, leb-true, leb-false, le-leb}
 use lib.Dec.{leb}
 use Rattle.text.proofs.First.{Looked, looked, nowhere, lowest, none-of-all}
 use Rattle.layout.specs.declared.Edition.{Edition}
-use Rattle.layout.specs.declared.Refusal.{Refusal}
 use Rattle.layout.specs.declared.Refusal.the-variants.{Illegal, Broken, Room}
 use Rattle.layout.specs.Editions.{lengthOf}
 use Rattle.ties.specs.Ties.{tie}
@@ -17,34 +16,43 @@ use Rattle.reading.specs.Readings.{lead}
 use Rattle.writing.specs.declared.Outcome.{Outcome}
 use Rattle.writing.specs.declared.Outcome.the-variants.{Done, Unwritten}
 use Rattle.writing.specs.Spelled.{recordOf}
-use Rattle.writing.specs.Written.{writes, unwrittenAt, writtenIn}
+use Rattle.writing.specs.Written.{writes, unwrittenAt, writtenIn, outcomeNumber}
 
-pub record Writable (ed : Edition) (rs : List Reading) (room : ℕ) : Type 0 where
-  pub each : (e : ℕ) → 1 ≤ e → e < 1 + 101 → writes ed rs (recordOf ed rs) e ≡ true
-  pub tied : (k : ℕ) → 1 ≤ k → k < 1 + 9 → tie ed (recordOf ed rs) k ≡ true
-  pub held : lengthOf ed ≤ room
+module _ (ed : Edition) (rs : List Reading) where
+  -- every element below m is written, and every tie below m holds
+  abbrev pub WritesBelow : ℕ → Type 0
+  WritesBelow m = (e : ℕ) → 1 ≤ e → e < m → writes ed rs (recordOf ed rs) e ≡ true
 
-abbrev is-done : Outcome → Bool
-is-done Done = true
-is-done (Unwritten r) = false
+  abbrev pub TiedBelow : ℕ → Type 0
+  TiedBelow m = (k : ℕ) → 1 ≤ k → k < m → tie ed (recordOf ed rs) k ≡ true
 
--- a place that was found is a refusal
-found : (r : ℕ → Refusal) (p : ℕ) (next : Outcome) → 1 ≤ p → unwrittenAt r p next ≡ Done → ⊥
-found r p next h e = true≢false (sym (rw (ne-eqb p 0 (λ z. omega arith)) at (ap is-done e)))
+  pub data Judged (room : ℕ) : Outcome → Type 0 where
+    unwritable : (e : ℕ) → 1 ≤ e → e < 1 + 101 → writes ed rs (recordOf ed rs) e ≡ false → WritesBelow e → Judged room (Unwritten (Illegal (lead e)))
+    breaking : WritesBelow (1 + 101) → (k : ℕ) → 1 ≤ k → k < 1 + 9 → tie ed (recordOf ed rs) k ≡ false → Judged room (Unwritten (Broken k))
+    cramped : WritesBelow (1 + 101) → Judged room (Unwritten Room)
+    kept : WritesBelow (1 + 101) → TiedBelow (1 + 9) → Judged room Done
 
-module _ (ed : Edition) (rs : List Reading) (room : ℕ) where
-  pub done-means : writtenIn ed rs room ≡ Done → Writable ed rs room
+  pub judged : (room : ℕ) → Judged room (writtenIn ed rs room)
   unfolding writtenIn
-  done-means e = by _ (looked (writes ed rs (recordOf ed rs)) 1 101) _ (looked (tie ed (recordOf ed rs)) 1 9) (leb (lengthOf ed) room) refl e
+  judged room = by _ (looked (writes ed rs (recordOf ed rs)) 1 101) _ (looked (tie ed (recordOf ed rs)) 1 9) (leb (lengthOf ed) room)
     where
-      by : (p : ℕ) → Looked (writes ed rs (recordOf ed rs)) 1 101 p → (q : ℕ) → Looked (tie ed (recordOf ed rs)) 1 9 q → (t : Bool) → leb (lengthOf ed) room ≡ t →
-          unwrittenAt (λ e. Illegal (lead e)) p (unwrittenAt Broken q (cond t Done (Unwritten Room))) ≡ Done → Writable ed rs room
-      by p (nowhere f) q (nowhere g) true h k = record { each = f; tied = g; held = leb-true _ _ h }
-      by p (nowhere f) q (nowhere g) false h k = absurd (true≢false (sym (ap is-done k)))
-      by p (nowhere f) q (lowest m a b x g) t h k = absurd (found Broken m _ a k)
-      by p (lowest m a b x f) q l t h k = absurd (found (λ e. Illegal (lead e)) m _ a k)
+      by : (p : ℕ) → Looked (writes ed rs (recordOf ed rs)) 1 101 p → (q : ℕ) → Looked (tie ed (recordOf ed rs)) 1 9 q → (t : Bool) →
+          Judged room (unwrittenAt (λ e. Illegal (lead e)) p (unwrittenAt Broken q (cond t Done (Unwritten Room))))
+      by p (nowhere f) q (nowhere g) true = kept f g
+      by p (nowhere f) q (nowhere g) false = cramped f
+      by p (nowhere f) q (lowest m a b x g) t = rw (ne-eqb m 0 (λ z. omega arith)) (breaking f m a b x)
+      by p (lowest m a b x f) q l t = rw (ne-eqb m 0 (λ z. omega arith)) (unwritable m a b x f)
 
-  pub means-done : Writable ed rs room → writtenIn ed rs room ≡ Done
+  -- a record that was written, and what it takes to write one
+  pub done-means : (room : ℕ) → writtenIn ed rs room ≡ Done → WritesBelow (1 + 101) × TiedBelow (1 + 9)
+  done-means room e = by _ (judged room) (ap outcomeNumber e)
+    where
+      by : (o : Outcome) → Judged room o → outcomeNumber o ≡ 0 → WritesBelow (1 + 101) × TiedBelow (1 + 9)
+      by o (unwritable m a b x f) z = absurd (omega arith)
+      by o (breaking f m a b x) z = absurd (omega arith)
+      by o (cramped f) z = absurd (omega arith)
+      by o (kept f g) z = (f, g)
+
+  pub means-done : (room : ℕ) → WritesBelow (1 + 101) → TiedBelow (1 + 9) → lengthOf ed ≤ room → writtenIn ed rs room ≡ Done
   unfolding writtenIn
-  means-done w =
-      rw (none-of-all (writes ed rs (recordOf ed rs)) 101 (w .each), none-of-all (tie ed (recordOf ed rs)) 9 (w .tied), le-leb _ _ (w .held))
+  means-done room f g h = rw (none-of-all (writes ed rs (recordOf ed rs)) 101 f, none-of-all (tie ed (recordOf ed rs)) 9 g, le-leb _ _ h)

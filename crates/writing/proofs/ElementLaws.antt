@@ -17,7 +17,7 @@ use Rattle.text.proofs.Ways.{and-first, and-second}
 use Rattle.numerals.specs.Spelling.{spell}
 use Rattle.layout.specs.declared.Edition.{Edition}
 use Rattle.layout.specs.declared.Edition.the-variants.{One, Three, Four}
-use Rattle.layout.specs.Editions.{lastOf}
+use Rattle.layout.specs.Editions.{lengthOf, lastOf}
 use Rattle.layout.specs.Page.{page, element, widthOf, startOf, textOf, textsOf, mayBeBlank, legal}
 use Rattle.layout.proofs.Columns.{start-next, start-rises, filled}
 use Rattle.ties.specs.Ties.{tie, signTie}
@@ -111,27 +111,28 @@ departures One xs l h = absurd (omega arith)
 departures Three xs l h = in-digits (either 0 99 101 199) Three xs 91 refl h
 departures Four xs l h = in-digits (either 0 99 101 199) Four xs 91 refl h
 
+-- within a record an element has as many columns as it is wide
+pub text-long : (ed : Edition) (xs : List ℕ) → length xs ≡ lengthOf ed → (e : ℕ) → e ≤ lastOf ed → length (textOf e xs) ≡ widthOf e
+unfolding textOf
+text-long ed xs full e h =
+    length-take-le (widthOf e) (drop (startOf e) xs)
+    (rw length-drop (omega (arith, full, start-next e, start-rises (e + 1) (lastOf ed + 1) (omega arith), filled ed)))
+
 -- the columns of each element of an acceptable record, spelled from its reading
 module _ (ed : Edition) (xs : List ℕ) (a : Acceptable ed xs) where
-  pub text-long : (e : ℕ) → e ≤ lastOf ed → length (textOf e xs) ≡ widthOf e
-  unfolding textOf
-  text-long e h =
-      length-take-le (widthOf e) (drop (startOf e) xs)
-      (rw length-drop (omega (arith, a .full, start-next e, start-rises (e + 1) (lastOf ed + 1) (omega arith), filled ed)))
-
   abbrev Back : ℕ → Type 0
   Back e = e ≤ lastOf ed → spell (widthOf e) (numeralFor ed e (readingOf ed xs e)) ≡ textOf e xs
 
   sign-at : (e f : ℕ) → readingOf ed xs e ≡ temperature (textOf e xs) (textOf f xs) → among 16 18 28 50 e ≡ true → signTie (textOf e xs) (textOf f xs) ≡ true →
       (Legal ed xs e → Holds (either 0 2 5 7) (textOf e xs)) → 1 ≤ e → Back e
   sign-at e f r g t k p h =
-      ap (λ (x : Reading). spell (widthOf e) (numeralFor ed e x)) r ∙ sign-back ed (textOf e xs) (textOf f xs) t e g (text-long e h) (k (a .lawful e p h))
+      ap (λ (x : Reading). spell (widthOf e) (numeralFor ed e x)) r ∙ sign-back ed (textOf e xs) (textOf f xs) t e g (text-long ed xs (a .full) e h) (k (a .lawful e p h))
 
   value-at : (e f : ℕ) → readingOf ed xs f ≡ temperature (textOf e xs) (textOf f xs) → among 16 18 28 50 f ≡ false → among 17 19 29 51 f ≡ true →
       signTie (textOf e xs) (textOf f xs) ≡ true → textsOf ed f ≡ Within 0 999 → 1 ≤ f → Back f
   value-at e f r n g t k p h =
       ap (λ (x : Reading). spell (widthOf f) (numeralFor ed f x)) r ∙
-      value-back ed (textOf e xs) (textOf f xs) t f n g (text-long f h) (within ed xs 0 999 f k (a .lawful f p h))
+      value-back ed (textOf e xs) (textOf f xs) t f n g (text-long ed xs (a .full) f h) (within ed xs 0 999 f k (a .lawful f p h))
 
   signs-back : (e : ℕ) → among 16 18 28 50 e ≡ true → Back e
   unfolding itemOf tie element page
@@ -152,7 +153,7 @@ module _ (ed : Edition) (xs : List ℕ) (a : Acceptable ed xs) where
   hemisphere-back : Back 6
   unfolding itemOf tie
   hemisphere-back h =
-      digit-back ed (textOf 6 xs) (textOf 7 xs) (textOf 8 xs) (a .tied 1 (lit≤ tt) (lit≤ tt)) (hemispheres ed) (text-long 6 h)
+      digit-back ed (textOf 6 xs) (textOf 7 xs) (textOf 8 xs) (a .tied 1 (lit≤ tt) (lit≤ tt)) (hemispheres ed) (text-long ed xs (a .full) 6 h)
       (in-digits (hemispheres ed) ed xs 6 (of-hemispheres ed (textOf 6 xs)) (a .lawful 6 (lit≤ tt) h))
 
   place-back : (e : ℕ) → among 7 8 7 8 e ≡ true → Back e
@@ -161,17 +162,17 @@ module _ (ed : Edition) (xs : List ℕ) (a : Acceptable ed xs) where
     where
       latitude : Back 7
       latitude h =
-          latitude-back ed (textOf 6 xs) (textOf 7 xs) (textOf 8 xs) (a .tied 1 (lit≤ tt) (lit≤ tt)) (between 0 900) (text-long 7 h)
+          latitude-back ed (textOf 6 xs) (textOf 7 xs) (textOf 8 xs) (a .tied 1 (lit≤ tt) (lit≤ tt)) (between 0 900) (text-long ed xs (a .full) 7 h)
           (within ed xs 0 900 7 (in-each ed 7 (Within 0 900) refl refl refl) (a .lawful 7 (lit≤ tt) h))
 
       longitude : Back 8
       longitude h =
-          longitude-back ed (textOf 6 xs) (textOf 7 xs) (textOf 8 xs) (a .tied 1 (lit≤ tt) (lit≤ tt)) (text-long 8 h)
+          longitude-back ed (textOf 6 xs) (textOf 7 xs) (textOf 8 xs) (a .tied 1 (lit≤ tt) (lit≤ tt)) (text-long ed xs (a .full) 8 h)
           (within ed xs 0 1800 8 (in-each ed 8 (Within 0 1800) refl refl refl) (a .lawful 8 (lit≤ tt) h))
 
   departed-back : Back 91
   unfolding itemOf
-  departed-back h = departure-back ed (textOf 91 xs) (text-long 91 h) (departures ed xs h (a .lawful 91 (lit≤ tt) h))
+  departed-back h = departure-back ed (textOf 91 xs) (text-long ed xs (a .full) 91 h) (departures ed xs h (a .lawful 91 (lit≤ tt) h))
 
   pub element-back : (e : ℕ) → 1 ≤ e → Back e
   unfolding itemOf
@@ -184,4 +185,4 @@ module _ (ed : Edition) (xs : List ℕ) (a : Acceptable ed xs) where
       by false false true s t f g i j k = at-number Back e 6 i hemisphere-back h
       by false false false true t f g i j k = signs-back e j h
       by false false false false true f g i j k = at-number Back e 91 k departed-back h
-      by false false false false false f g i j k = rw (f, g, i, j, k) (plain-back ed e (textOf e xs) (text-long e h) (legal-prints ed xs e (a .lawful e l h)))
+      by false false false false false f g i j k = rw (f, g, i, j, k) (plain-back ed e (textOf e xs) (text-long ed xs (a .full) e h) (legal-prints ed xs e (a .lawful e l h)))

@@ -8,7 +8,9 @@ pub mod SameLaws
 pub mod BackLaws
 pub mod ElementLaws
 pub mod EachLaws
+pub mod GivenLaws
 pub mod DoneLaws
 pub mod Demand2Written
 pub mod Demand2Back
 pub mod Demand2Ties
+pub mod Demand2Refused

@@ -1,3 +1,4 @@
 pub mod Spelled
 pub mod Same
 pub mod Written
+pub mod Givable

@@ -13,4 +13,5 @@ pub mod DoneLaws
 pub mod Demand2Written
 pub mod Demand2Back
 pub mod Demand2Ties
+pub mod GivableLaws
 pub mod Demand2Refused

@@ -8,123 +8,35 @@
 // line may have any length: no record is longer than 159, so the first 160 bytes of a line tell all
 // that there is to tell of it, and no more of it is kept.
 use checking::Answer;
-use layout::Edition;
-use layout::Refusal;
+use layout::page;
 use libc::STDIN_FILENO;
-use libc::STDOUT_FILENO;
-
-// How many records were met, and how many of them were refused.
-struct Tally {
-    records: u64,
-    refused: u64,
-}
-
-// The next number; the last one has none after it.
-fn one_more(n: u64) -> u64 {
-    if n < u64::MAX { n + 1 } else { n }
-}
-
-fn say(text: &[u8]) {
-    io::write_all(STDOUT_FILENO, text);
-}
-
-fn say_number(n: u64) {
-    io::print_decimal(STDOUT_FILENO, n);
-}
-
-fn say_edition(edition: Edition) {
-    match edition {
-        Edition::One => say(b" ok edition 1\n"),
-        Edition::Three => say(b" ok edition 3\n"),
-        Edition::Four => say(b" ok edition 4\n"),
-    }
-}
-
-fn say_call_sign(sign: &[u8], record: u64) {
-    if sign.len() == 0 {
-        return;
-    }
-    say_number(record);
-    say(b" call sign ");
-    say(sign);
-    say(b"\n");
-}
-
-fn say_refused(refusal: Refusal) {
-    say(b" refused ");
-    say_number(refusal.number());
-    say(b" ");
-    say_number(refusal.place());
-    say(b"\n");
-}
+use report::Held;
+use report::Tally;
 
 // Says what the check answers of one record.
-fn tell(line: &[u8], tally: Tally) -> Tally {
-    let records = one_more(tally.records);
-    let refused = tally.refused;
-    say_number(records);
+fn tell(line: &[u8], before: Tally) -> Tally {
+    let tally = before.with_record();
+    let record = tally.records;
+    report::say_number(record);
     match checking::check(line) {
         Answer::Accepted(edition) => {
-            say_edition(edition);
-            say_call_sign(checking::show_call_sign(line), records);
-            Tally {
-                records: records,
-                refused: refused,
-            }
+            report::say_edition(edition);
+            report::say_call_sign(checking::show_call_sign(line), record);
+            tally
         }
         Answer::Refused(refusal) => {
-            say_refused(refusal);
-            Tally {
-                records: records,
-                refused: one_more(refused),
-            }
+            report::say_refused(refusal);
+            tally.with_refusal()
         }
     }
-}
-
-fn say_last(tally: Tally) {
-    say(b"records ");
-    say_number(tally.records);
-    say(b" refused ");
-    say_number(tally.refused);
-    say(b"\n");
-}
-
-// A line so far: how many of its bytes are kept, and the tally of those before it.
-struct Held {
-    length: usize,
-    tally: Tally,
-}
-
-// Keeps one byte more of the line, while there is room for it, and answers how many are kept.
-fn keep(kept: &mut [u8], length: usize, b: u8) -> usize {
-    if length < kept.len() {
-        kept[length] = b;
-        return length + 1;
-    }
-    length
 }
 
 // Takes one byte: the end of a line, whose record is told, or one byte more of it.
 fn take(kept: &mut [u8], held: Held, b: u8) -> Held {
-    let length = held.length;
-    let tally = held.tally;
     if b != 10 {
-        return Held {
-            length: keep(kept, length, b),
-            tally: tally,
-        };
+        return report::keep(kept, held, b);
     }
-    if length <= kept.len() {
-        return Held {
-            length: 0,
-            tally: tell(&kept[..length], tally),
-        };
-    }
-    Held {
-        length: 0,
-        tally: tally,
-    }
+    Held::nothing(tell(page::columns(kept, 0, held.length), held.tally))
 }
 
 fn take_all(piece: &[u8], kept: &mut [u8], held: Held) -> Held {
@@ -158,27 +70,16 @@ fn finish(kept: &mut [u8], held: Held) {
     let length = held.length;
     let tally = held.tally;
     if length == 0 {
-        say_last(tally);
+        report::say_last(tally);
         return;
     }
     let all = take(kept, held, 10);
-    say_last(all.tally);
+    report::say_last(all.tally);
 }
 
 fn main() {
     let mut buffer = io::large_buffer();
     let mut kept = [0u8; 160];
-    let none = Tally {
-        records: 0,
-        refused: 0,
-    };
-    let held = read_all(
-        &mut buffer,
-        &mut kept,
-        Held {
-            length: 0,
-            tally: none,
-        },
-    );
+    let held = read_all(&mut buffer, &mut kept, Held::nothing(Tally::none()));
     finish(&mut kept, held);
 }

@@ -7,6 +7,8 @@ use Prim.Native.Nat.{ℕ, zero, suc, _+_, _-_, _<_, _≤_}
 use native.Mathlib.Nat.{add-suc, suc-add, le-refl, eq-or-lt-of-le}
 use native.Mathlib.Numerals.{add-one}
 use native.Mathlib.Omega.{arith}
+use borrow.Author.Tests.{leb-true, leb-false}
+use lib.Dec.{leb}
 use Rattle.text.specs.First.{firstFrom, firstOf}
 
 left : (n k : ℕ) → k ≤ n → n + 1 - k ≡ suc (n + 1 - (k + 1))
@@ -65,3 +67,19 @@ none-of-all p n f = none (firstOf n p) (looked p 1 n)
     none : (q : ℕ) → Looked p 1 n q → q ≡ 0
     none q (nowhere g) = refl
     none q (lowest r a b x g) = absurd (true≢false (sym (f r a b) ∙ x))
+
+-- the place that is found where the test fails there and passes at each lower place
+pub first-of : (p : ℕ → Bool) (n k : ℕ) → 1 ≤ k → k < 1 + n → p k ≡ false → ((j : ℕ) → 1 ≤ j → j < k → p j ≡ true) → firstOf n p ≡ k
+first-of p n k l h x f = found (firstOf n p) (looked p 1 n)
+  where
+    apart : {A : Type 0} (q : ℕ) → p q ≡ true → p q ≡ false → A
+    apart q a b = absurd (true≢false (sym a ∙ b))
+
+    found : (q : ℕ) → Looked p 1 n q → q ≡ k
+    found q (nowhere g) = apart k (g k l h) x
+    found q (lowest r a b y g) = by (leb r k) (leb k r) refl refl
+      where
+        by : (s t : Bool) → leb r k ≡ s → leb k r ≡ t → r ≡ k
+        by true true d e = omega (arith, leb-true r k d, leb-true k r e)
+        by false t d e = apart k (g k l (leb-false _ _ d)) x
+        by true false d e = apart r (f r a (leb-false _ _ e)) y

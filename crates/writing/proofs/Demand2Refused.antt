@@ -51,7 +51,7 @@ lead-rises f = by (among 7 8 7 8 f) (among 17 19 29 51 f) refl refl
 
 module _ (ed : Edition) (rs : List Reading) where
   -- the record that is spelled is such a text, where the elements that share the reading are written
-  by-record : (e : ℕ) → ((f : ℕ) → 1 ≤ f → f ≤ 101 → lead f ≡ lead e → writes ed rs (recordOf ed rs) f ≡ true) → Givable ed rs e
+  pub by-record : (e : ℕ) → ((f : ℕ) → 1 ≤ f → f ≤ 101 → lead f ≡ lead e → writes ed rs (recordOf ed rs) f ≡ true) → Givable ed rs e
   unfolding writes
   by-record e k = record {
     text = recordOf ed rs;
@@ -63,8 +63,8 @@ module _ (ed : Edition) (rs : List Reading) where
       both : (f : ℕ) → 1 ≤ f → f ≤ 101 → lead f ≡ lead e → (legal ed (recordOf ed rs) f && same (readingOf ed (recordOf ed rs) f) (given rs f)) ≡ true
       both f l h s = k f l h s
 
-  ungivable : (m : ℕ) → 1 ≤ m → m ≤ 101 → writes ed rs (recordOf ed rs) m ≡ false → WritesBelow ed rs m → Ungivable ed rs (lead m)
-  ungivable m l h x below = record {
+  pub lowest-ungivable : (m : ℕ) → 1 ≤ m → m ≤ 101 → writes ed rs (recordOf ed rs) m ≡ false → WritesBelow ed rs m → Ungivable ed rs (lead m)
+  lowest-ungivable m l h x below = record {
     low = lead-is m l .low;
     leads = lead-of-lead m;
     none = λ g. true≢false (sym (given-writes ed rs (lead m) g m l h (sym (lead-of-lead m))) ∙ x);
@@ -91,16 +91,16 @@ module _ (ed : Edition) (rs : List Reading) where
   refused-exactly k room = (λ e. to _ (judged ed rs room) e, λ u. from u _ (judged ed rs room))
     where
       to : (o : Outcome) → Judged ed rs room o → o ≡ Unwritten (Illegal k) → Ungivable ed rs k
-      to o (unwritable m a b x below) e = rw (sym (ap outcomePlace e)) (ungivable m a (omega arith) x below)
-      to o (breaking f m a b x) e = let z = ap outcomeNumber e in absurd (omega arith)
-      to o (cramped f) e = let z = ap outcomeNumber e in absurd (omega arith)
-      to o (kept f g) e = let z = ap outcomeNumber e in absurd (omega arith)
+      to o (unwritable m a b x below) e = rw (sym (ap outcomePlace e)) (lowest-ungivable m a (omega arith) x below)
+      to o (breaking f m a b x g) e = let z = ap outcomeNumber e in absurd (omega arith)
+      to o (cramped f g h) e = let z = ap outcomeNumber e in absurd (omega arith)
+      to o (kept f g h) e = let z = ap outcomeNumber e in absurd (omega arith)
 
       no-more : Ungivable ed rs k → WritesBelow ed rs (1 + 101) → ⊥
       no-more u f = u .none (by-record k (λ e l h s. f e l (omega arith)))
 
       from : Ungivable ed rs k → (o : Outcome) → Judged ed rs room o → o ≡ Unwritten (Illegal k)
-      from u o (unwritable m a b x below) = ap (λ (p : ℕ). Unwritten (Illegal p)) (only-one (lead m) k (ungivable m a (omega arith) x below) u)
-      from u o (breaking f m a b x) = absurd (no-more u f)
-      from u o (cramped f) = absurd (no-more u f)
-      from u o (kept f g) = absurd (no-more u f)
+      from u o (unwritable m a b x below) = ap (λ (p : ℕ). Unwritten (Illegal p)) (only-one (lead m) k (lowest-ungivable m a (omega arith) x below) u)
+      from u o (breaking f m a b x g) = absurd (no-more u f)
+      from u o (cramped f g h) = absurd (no-more u f)
+      from u o (kept f g h) = absurd (no-more u f)

@@ -22,11 +22,12 @@ use Rattle.reading.specs.declared.Reading.{Reading}
 use Rattle.reading.specs.Readings.{readingOf}
 use Rattle.writing.specs.declared.Outcome.the-variants.{Done}
 use Rattle.writing.specs.Spelled.{given, recordOf}
+use Rattle.writing.specs.Fits.{TiedBelow}
 use Rattle.writing.specs.Written.{writes, writtenIn}
 use Rattle.writing.proofs.RecordLaws.{record-long}
 use Rattle.writing.proofs.PrintLaws.{record-prints, format-digit, edition-digit}
 use Rattle.writing.proofs.EachLaws.{every-legal, as-given}
-use Rattle.writing.proofs.DoneLaws.{WritesBelow, TiedBelow, done-means}
+use Rattle.writing.proofs.DoneLaws.{WritesBelow, done-means}
 
 -- the shortest record has 131 columns
 shortest : (ed : Edition) → 131 ≤ lengthOf ed

@@ -2,3 +2,4 @@ pub mod Spelled
 pub mod Same
 pub mod Written
 pub mod Givable
+pub mod Fits

@@ -1,34 +1,36 @@
 -- Demand 2: which ties a write can break. Readings say one thing of a place and of a temperature, so ties 1 and 3 to 6 hold of what is spelled from them; ties
--- 2, 7, 8 and 9 are between readings, and each can be broken. Assumes nothing.
+-- 2, 7, 8 and 9 are between readings, and Demand2TiesBroken breaks each. Assumes nothing.
 use mathlib.Core.Path.{_≡_, refl, sym, ap, _∙_}
-use mathlib.Core.Bool.{Bool, true, false, cond, not, _&&_, _||_, Bool·beq, true≢false}
+use mathlib.Core.Bool.{Bool, true, false, _&&_, _||_, true≢false}
 use mathlib.Core.Logic.{⊎-elim}
-use mathlib.Core.List.{List, [], _∷_}
+use mathlib.Core.List.{List}
 use Prim.Native.Nat.{ℕ, zero, suc, _+_, _-_, _<_, _≤_}
 use native.Mathlib.Omega.{arith}
 use borrow.Author.Tests.{eqb-true}
-use lib.Dec.{eqb, leb, lit≤}
-use lib.IntN.{ℤ, pos, natAbs}
-use lib.ListN.{length}
+use lib.Dec.{eqb, lit≤}
+use lib.IntN.{pos}
 use Rattle.text.specs.Bytes.{every, between, blank, number, valueFrom}
 use Rattle.text.specs.Texts.{among}
 use Rattle.text.proofs.Ways.{and-first, and-second}
 use Rattle.numerals.specs.Spelling.{spelled, spell, inDigits, inBlanks}
 use Rattle.layout.specs.declared.Edition.{Edition}
-use Rattle.layout.specs.Editions.{lastOf}
-use Rattle.layout.specs.Page.{element, page, widthOf, textOf}
+use Rattle.layout.specs.declared.Refusal.the-variants.{Broken}
+use Rattle.layout.specs.Page.{element, page, columns, widthOf, textOf}
 use Rattle.layout.proofs.Beyond.{last-above}
 use Rattle.ties.specs.Ties.{placeTie, signTie, tie}
 use Rattle.ties.specs.Ties as Ties
 use Rattle.reading.specs.declared.Kind.{Kind}
 use Rattle.reading.specs.declared.Kind.the-variants.{Measured, Computed}
 use Rattle.reading.specs.declared.Reading.{Reading}
-use Rattle.reading.specs.declared.Reading.the-variants.{Missing, Amount, At}
+use Rattle.reading.specs.declared.Reading.the-variants.{Missing, Amount}
 use Rattle.reading.specs.Readings.{temperature, placeOf, itemOf, readingOf}
-use Rattle.writing.specs.Spelled.{amountNumeral, numeralFor, given, recordOf}
-use Rattle.writing.specs.Written.{writes}
+use Rattle.writing.specs.declared.Outcome.{Outcome}
+use Rattle.writing.specs.declared.Outcome.the-variants.{Unwritten}
+use Rattle.writing.specs.Spelled.{amountNumeral, numeralFor, recordOf}
+use Rattle.writing.specs.Written.{writes, writtenIn, outcomeNumber, outcomePlace}
 use Rattle.writing.proofs.BackLaws.{either-of, greatest}
 use Rattle.writing.proofs.EachLaws.{own-text}
+use Rattle.writing.proofs.DoneLaws.{WritesBelow, Judged, unwritable, breaking, cramped, kept, judged}
 
 -- a sign and a temperature that are spelled from what they read as
 module _ (ed : Edition) (e f : ℕ) (s v : List ℕ) (g : among 16 18 28 50 e ≡ true) (one : widthOf e ≡ 1) (three : widthOf f ≡ 3)
@@ -112,3 +114,31 @@ module _ (ed : Edition) (rs : List Reading) (each : (e : ℕ) → 1 ≤ e → e 
   ties-kept (suc (suc (suc (suc (suc (suc (suc k))))))) h =
       let n : ℕ = suc (suc (suc (suc (suc (suc (suc k)))))) in
       absurd (⊎-elim (λ a. let l : n ≡ 1 = eqb-true n 1 a in omega arith) (λ a. let l = greatest 3 6 n a in omega arith) (either-of (eqb n 1) (between 3 6 n) h))
+
+-- the ties that are left
+left : (k : ℕ) → 1 ≤ k → k < 10 → (eqb k 1 || between 3 6 k) ≡ false → among 2 7 8 9 k ≡ true
+left zero l h e = absurd (omega arith)
+left (suc zero) l h e = absurd (true≢false e)
+left (suc (suc zero)) l h e = refl
+left (suc (suc (suc zero))) l h e = absurd (true≢false e)
+left (suc (suc (suc (suc zero)))) l h e = absurd (true≢false e)
+left (suc (suc (suc (suc (suc zero))))) l h e = absurd (true≢false e)
+left (suc (suc (suc (suc (suc (suc zero)))))) l h e = absurd (true≢false e)
+left (suc (suc (suc (suc (suc (suc (suc zero))))))) l h e = refl
+left (suc (suc (suc (suc (suc (suc (suc (suc zero)))))))) l h e = refl
+left (suc (suc (suc (suc (suc (suc (suc (suc (suc zero))))))))) l h e = refl
+left (suc (suc (suc (suc (suc (suc (suc (suc (suc (suc k)))))))))) l h e = absurd (omega arith)
+
+-- write breaks no tie but 2, 7, 8 and 9
+pub breaks-only : (ed : Edition) (rs : List Reading) (room k : ℕ) → writtenIn ed rs room ≡ Unwritten (Broken k) → among 2 7 8 9 k ≡ true
+breaks-only ed rs room k e = by _ (judged ed rs room) e
+  where
+    which : (m : ℕ) → WritesBelow ed rs (1 + 101) → 1 ≤ m → m < 10 → tie ed (recordOf ed rs) m ≡ false → (t : Bool) → (eqb m 1 || between 3 6 m) ≡ t → among 2 7 8 9 m ≡ true
+    which m f l h x true s = absurd (true≢false (sym (ties-kept ed rs f m s) ∙ x))
+    which m f l h x false s = left m l h s
+
+    by : (o : Outcome) → Judged ed rs room o → o ≡ Unwritten (Broken k) → among 2 7 8 9 k ≡ true
+    by o (unwritable m a b x f) z = let n = ap outcomeNumber z in absurd (omega arith)
+    by o (breaking f m a b x g) z = ap (among 2 7 8 9) (sym (ap outcomePlace z)) ∙ which m f a b x _ refl
+    by o (cramped f g h) z = let n = ap outcomeNumber z in absurd (omega arith)
+    by o (kept f g h) z = let n = ap outcomeNumber z in absurd (omega arith)

@@ -14,5 +14,6 @@ pub mod Demand1Outcomes
 pub mod Demand2Written
 pub mod Demand2Back
 pub mod Demand2Ties
+pub mod Demand2TiesBroken
 pub mod GivableLaws
 pub mod Demand2Refused

@@ -1,7 +1,6 @@
 -- What each way through the code that reads says of the reading. Assumes nothing.
 use mathlib.Core.Path.{_≡_, refl, sym, ap, _∙_}
 use mathlib.Core.Bool.{Bool, true, false, cond, not, _||_, true≢false}
-use mathlib.Core.Logic.{_⊎_, inl, inr, ⊎-elim}
 use mathlib.Core.List.{List}
 use Prim.Native.Nat.{ℕ, _+_, _-_, _%_, _≤_, _<_}
 use native.Mathlib.Omega.{arith}
@@ -11,6 +10,7 @@ use lib.Dec.{leb, eqb, lit≤}
 use lib.IntN.{ℤ}
 use Rattle.text.specs.Bytes.{blank, digits, number, word}
 use Rattle.text.specs.Texts.{among}
+use Rattle.text.proofs.Among.{among-cases}
 use Rattle.layout.specs.declared.Edition.{Edition}
 use Rattle.layout.specs.declared.Refusal.the-variants.{NoElement}
 use Rattle.layout.specs.Editions.{lastOf}
@@ -127,20 +127,12 @@ module _ (ed : Edition) (q la lo : List ℕ) (x : Bool) (p : x ≡ blank q) wher
       unfolding placeOf
       is-place l d m n u w a o d′ e f g i j t v b = rw (← p, h, ← r, k, ← s, l, ← e, ← i, ← t, ← f, ← g, ← j, ← v, b)
 
--- a number that is one of four is no more than the greatest of them
-either-half : (x y : Bool) → (x || y) ≡ true → (x ≡ true) ⊎ (y ≡ true)
-either-half true y h = inl refl
-either-half false y h = inr h
-
+-- a number that is one of four is no more than the greatest of them, and no less than the least
 pub among-below : (k a b c d n : ℕ) → a ≤ k → b ≤ k → c ≤ k → d ≤ k → among a b c d n ≡ true → n ≤ k
-among-below k a b c d n p q r s h =
-    ⊎-elim
-    (λ x. ⊎-elim
-    (λ y. ⊎-elim (λ z. rw (eqb-true n a z) p) (λ z. rw (eqb-true n b z) q) (either-half _ _ y))
-    (λ y. rw (eqb-true n c y) r)
-    (either-half _ _ x))
-    (λ x. rw (eqb-true n d x) s)
-    (either-half _ _ h)
+among-below k = among-cases (λ n. n ≤ k)
+
+pub among-above : (k a b c d n : ℕ) → k ≤ a → k ≤ b → k ≤ c → k ≤ d → among a b c d n ≡ true → k ≤ n
+among-above k = among-cases (λ n. k ≤ n)
 
 -- what the element reads as that shares its reading with no lower one, by the kind of element
 module _ (ed : Edition) (xs : List ℕ) (e : ℕ) where
@@ -189,16 +181,6 @@ module _ (ed : Edition) (xs : List ℕ) (e : ℕ) where
 
 pub after-answer : {a b : Answer} (xs : List ℕ) (e : ℕ) → a ≡ checked xs → a ≡ b → readAfter b xs e ≡ readOf xs e
 after-answer xs e f g = ap (λ (q : Answer). readAfter q xs e) (sym g ∙ f)
-
-pub among-above : (k a b c d n : ℕ) → k ≤ a → k ≤ b → k ≤ c → k ≤ d → among a b c d n ≡ true → k ≤ n
-among-above k a b c d n p q r s h =
-    ⊎-elim
-    (λ x. ⊎-elim
-    (λ y. ⊎-elim (λ z. rw (eqb-true n a z) p) (λ z. rw (eqb-true n b z) q) (either-half _ _ y))
-    (λ y. rw (eqb-true n c y) r)
-    (either-half _ _ x))
-    (λ x. rw (eqb-true n d x) s)
-    (either-half _ _ h)
 
 -- the lowest element that shares a reading with e is one of the elements, and no higher than e
 pub record Lead (e l : ℕ) : Type 0 where

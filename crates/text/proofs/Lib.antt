@@ -6,3 +6,4 @@ pub mod Numbers
 pub mod First
 pub mod Bits
 pub mod Parts
+pub mod Among

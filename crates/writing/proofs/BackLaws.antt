@@ -12,6 +12,7 @@ use lib.IntN.{ℤ, pos, negsuc, negℤ, natAbs}
 use lib.ListN.{length}
 use Rattle.text.specs.Bytes.{every, between, either, printable, blank, digits, number, word}
 use Rattle.text.specs.Texts.{among}
+use Rattle.text.proofs.Among.{either-half}
 use Rattle.text.proofs.Ways.{and-first, and-second}
 use Rattle.numerals.specs.Spelling.{spelled, spell, inDigits, inBytes, inBlanks}
 use Rattle.numerals.proofs.Backs.{digits-back, blanks-back, bytes-back, spelled-beyond}
@@ -29,10 +30,6 @@ use Rattle.writing.specs.Spelled.{signDigit, amountNumeral, placeNumeral
 pub data Holds (p : ℕ → Bool) (t : List ℕ) : Type 0 where
   empty : blank t ≡ true → Holds p t
   holds : blank t ≡ false → digits t ≡ true → p (number t) ≡ true → Holds p t
-
-pub either-of : (x y : Bool) → (x || y) ≡ true → (x ≡ true) ⊎ (y ≡ true)
-either-of true y h = inl refl
-either-of false y h = inr h
 
 -- a number from lo to hi
 pub least : (lo hi n : ℕ) → between lo hi n ≡ true → lo ≤ n
@@ -88,7 +85,7 @@ digit-kept (suc (suc (suc (suc (suc (suc zero)))))) (suc m) p z = refl
 digit-kept (suc (suc (suc (suc (suc (suc (suc zero))))))) m p z = refl
 digit-kept (suc (suc (suc (suc (suc (suc (suc (suc n)))))))) m p z =
     let k : ℕ = suc (suc (suc (suc (suc (suc (suc (suc n))))))) in
-    absurd (⊎-elim (λ a. let l = greatest 0 2 k a in omega arith) (λ a. let l = greatest 5 7 k a in omega arith) (either-of (between 0 2 k) (between 5 7 k) p))
+    absurd (⊎-elim (λ a. let l = greatest 0 2 k a in omega arith) (λ a. let l = greatest 5 7 k a in omega arith) (either-half (between 0 2 k) (between 5 7 k) p))
 
 -- a sign and its temperature
 module _ (ed : Edition) (s v : List ℕ) (tied : signTie s v ≡ true) where
@@ -114,7 +111,7 @@ module _ (ed : Edition) (s v : List ℕ) (tied : signTie s v ≡ true) where
 -- element 91
 departed : (n : ℕ) → either 0 99 101 199 n ≡ true →
     cond (negative (signed (leb 100 n) (n % 100))) (natAbs (signed (leb 100 n) (n % 100)) + 100) (natAbs (signed (leb 100 n) (n % 100))) ≡ n
-departed n p = ⊎-elim low high (either-of (between 0 99 n) (between 101 199 n) p)
+departed n p = ⊎-elim low high (either-half (between 0 99 n) (between 101 199 n) p)
   where
     low : between 0 99 n ≡ true → cond (negative (signed (leb 100 n) (n % 100))) (natAbs (signed (leb 100 n) (n % 100)) + 100) (natAbs (signed (leb 100 n) (n % 100))) ≡ n
     low a = let l = greatest 0 99 n a in rw (lt-leb 100 n (omega arith), mod-eq-of-lt {n = n} {m = 100} (omega arith))

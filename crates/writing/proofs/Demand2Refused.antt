@@ -10,6 +10,7 @@ use borrow.Author.Tests.{leb-true, leb-false}
 use lib.Dec.{leb, lit≤}
 use Rattle.text.specs.Texts.{among}
 use Rattle.text.proofs.Ways.{and-first, and-second}
+use Rattle.text.proofs.Among.{among-cases}
 use Rattle.layout.specs.declared.Edition.{Edition}
 use Rattle.layout.specs.declared.Refusal.the-variants.{Illegal}
 use Rattle.layout.specs.Page.{legal}
@@ -24,7 +25,7 @@ use Rattle.writing.specs.Written.{writes, writtenIn, outcomeNumber, outc
 use Rattle.writing.specs.Givable.{Givable, Ungivable}
 use Rattle.writing.proofs.SameLaws.{same-equal}
 use Rattle.writing.proofs.RecordLaws.{record-long}
-use Rattle.writing.proofs.ElementLaws.{among-cases, lead-of-lead}
+use Rattle.writing.proofs.ElementLaws.{lead-of-lead}
 use Rattle.writing.proofs.GivableLaws.{given-writes}
 use Rattle.writing.proofs.DoneLaws.{WritesBelow, Judged, unwritable, breaking, cramped, kept, judged}
 

@@ -11,6 +11,7 @@ use lib.Dec.{eqb, lit≤}
 use lib.IntN.{pos}
 use Rattle.text.specs.Bytes.{every, between, blank, number, valueFrom}
 use Rattle.text.specs.Texts.{among}
+use Rattle.text.proofs.Among.{either-half}
 use Rattle.text.proofs.Ways.{and-first, and-second}
 use Rattle.numerals.specs.Spelling.{spelled, spell, inDigits, inBlanks}
 use Rattle.layout.specs.declared.Edition.{Edition}
@@ -28,7 +29,7 @@ use Rattle.writing.specs.declared.Outcome.{Outcome}
 use Rattle.writing.specs.declared.Outcome.the-variants.{Unwritten}
 use Rattle.writing.specs.Spelled.{amountNumeral, numeralFor, recordOf}
 use Rattle.writing.specs.Written.{writes, writtenIn, outcomeNumber, outcomePlace}
-use Rattle.writing.proofs.BackLaws.{either-of, greatest}
+use Rattle.writing.proofs.BackLaws.{greatest}
 use Rattle.writing.proofs.EachLaws.{own-text}
 use Rattle.writing.proofs.DoneLaws.{WritesBelow, Judged, unwritable, breaking, cramped, kept, judged}
 
@@ -54,7 +55,7 @@ module _ (ed : Edition) (e f : ℕ) (s v : List ℕ) (g : among 16 18 28 50 e �
       absurd (⊎-elim
       (λ k. let n : number s ≡ 1 = eqb-true _ _ k in let o = no-minus Measured 0 (rw (a, b, n, z)) (rw g) in omega arith)
       (λ k. let n : number s ≡ 6 = eqb-true _ _ k in let o = no-minus Computed 5 (rw (a, b, n, z)) (rw g) in omega arith)
-      (either-of (eqb (number s) 1) (eqb (number s) 6) (and-first _ _ h)))
+      (either-half (eqb (number s) 1) (eqb (number s) 6) (and-first _ _ h)))
 
   pub sign-tied : signTie s v ≡ true
   unfolding temperature
@@ -113,7 +114,7 @@ module _ (ed : Edition) (rs : List Reading) (each : (e : ℕ) → 1 ≤ e → e 
   ties-kept (suc (suc (suc (suc (suc (suc zero)))))) h = pair 50 51 refl refl refl (lit≤ tt) (lit≤ tt) (lit≤ tt) (lit≤ tt) refl refl
   ties-kept (suc (suc (suc (suc (suc (suc (suc k))))))) h =
       let n : ℕ = suc (suc (suc (suc (suc (suc (suc k)))))) in
-      absurd (⊎-elim (λ a. let l : n ≡ 1 = eqb-true n 1 a in omega arith) (λ a. let l = greatest 3 6 n a in omega arith) (either-of (eqb n 1) (between 3 6 n) h))
+      absurd (⊎-elim (λ a. let l : n ≡ 1 = eqb-true n 1 a in omega arith) (λ a. let l = greatest 3 6 n a in omega arith) (either-half (eqb n 1) (between 3 6 n) h))
 
 -- the ties that are left
 left : (k : ℕ) → 1 ≤ k → k < 10 → (eqb k 1 || between 3 6 k) ≡ false → among 2 7 8 9 k ≡ true

@@ -12,7 +12,6 @@ use Rattle.layout.specs.declared.Edition.the-variants.{One, Three, Four}
 use Rattle.layout.specs.declared.Refusal.the-variants.{Broken}
 use Rattle.layout.specs.Page.{element, page, columns, startOf, textOf, legal}
 use Rattle.ties.specs.Ties.{placeTie, octantFits, octantTie, signTie, lastDigit, digitTie, windTie, tie}
-use Rattle.ties.specs.Ties as Ties
 use Rattle.reading.specs.declared.Kind.the-variants.{Measured}
 use Rattle.reading.specs.declared.Reading.{Reading}
 use Rattle.reading.specs.declared.Reading.the-variants.{Missing, Code, Amount, At}
@@ -22,12 +21,12 @@ use Rattle.writing.specs.Same.{partsOf, same}
 use Rattle.writing.specs.Spelled.{amountNumeral, placeNumeral, numeralFor, rowFrom, recordOf}
 use Rattle.writing.specs.Written.{writes, writtenIn}
 
-pub missing : ℕ → List Reading
+unfoldable pub missing : ℕ → List Reading
 missing zero = []
 missing (suc n) = Missing ∷ missing n
 
 -- the readings with that of element e said
-pub said : ℕ → Reading → List Reading → List Reading
+unfoldable pub said : ℕ → Reading → List Reading → List Reading
 said e r rs = set rs (e - 1) r
 
 abbrev pub of-edition : ℕ → ℕ → List Reading

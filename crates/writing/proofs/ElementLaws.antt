@@ -13,6 +13,7 @@ use Rattle.text.specs.Bytes.{between, either, blank, digits, number}
 use Rattle.text.specs.declared.Texts.{Texts}
 use Rattle.text.specs.declared.Texts.the-variants.{Within, Either}
 use Rattle.text.specs.Texts.{among, allows}
+use Rattle.text.proofs.Among.{at-number, among-cases}
 use Rattle.text.proofs.Ways.{and-first, and-second}
 use Rattle.numerals.specs.Spelling.{spell}
 use Rattle.layout.specs.declared.Edition.{Edition}
@@ -27,18 +28,7 @@ use Rattle.reading.specs.Readings.{temperature, lead, itemOf, readingOf}
 use Rattle.writing.specs.Same.{same}
 use Rattle.writing.specs.Spelled.{numeralFor}
 use Rattle.writing.proofs.PrintLaws.{legal-prints}
-use Rattle.writing.proofs.BackLaws.{Holds, empty, holds, either-of, greatest, plain-back, sign-back, value-back, departure-back, digit-back, latitude-back, longitude-back}
-
-pub at-number : (P : ℕ → Type 0) (n k : ℕ) → eqb n k ≡ true → P k → P n
-at-number P n k e p = rw (eqb-true n k e) p
-
--- what holds at each of four numbers holds at one of the four
-pub among-cases : (P : ℕ → Type 0) (a b c d n : ℕ) → P a → P b → P c → P d → among a b c d n ≡ true → P n
-among-cases P a b c d n p q r s h =
-    ⊎-elim
-    (λ x. ⊎-elim (λ y. ⊎-elim (λ z. rw (eqb-true n a z) p) (λ z. rw (eqb-true n b z) q) (either-of _ _ y)) (λ y. rw (eqb-true n c y) r) (either-of _ _ x))
-    (λ x. rw (eqb-true n d x) s)
-    (either-of _ _ h)
+use Rattle.writing.proofs.BackLaws.{Holds, empty, holds, greatest, plain-back, sign-back, value-back, departure-back, digit-back, latitude-back, longitude-back}
 
 -- elements share the reading of one that shares its own with none lower
 pub lead-of-lead : (e : ℕ) → lead (lead e) ≡ lead e

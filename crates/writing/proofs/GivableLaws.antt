@@ -11,6 +11,7 @@ use Rattle.text.specs.Bytes.{every, between, either, blank, number, valueFrom}
 use Rattle.text.specs.declared.Texts.the-variants.{Within, Either}
 use Rattle.text.specs.Texts.{among, allows}
 use Rattle.numerals.specs.Spelling.{spell}
+use Rattle.text.proofs.Among.{at-number, among-cases}
 use Rattle.layout.specs.declared.Edition.{Edition}
 use Rattle.layout.specs.Editions.{lastOf}
 use Rattle.layout.specs.Page.{element, page, widthOf, textOf, textsOf, mayBeBlank, legalText, legal}
@@ -27,7 +28,7 @@ use Rattle.writing.proofs.SameLaws.{same-self}
 use Rattle.writing.proofs.RecordLaws.{record-long, record-text}
 use Rattle.writing.proofs.PrintLaws.{legal-prints}
 use Rattle.writing.proofs.BackLaws.{Holds, empty, holds, greatest, plain-back, departure-back}
-use Rattle.writing.proofs.ElementLaws.{at-number, among-cases, lead-of-lead, in-digits, in-each, few-signs, signs, within, hemispheres, of-hemispheres, departures, text-long}
+use Rattle.writing.proofs.ElementLaws.{lead-of-lead, in-digits, in-each, few-signs, signs, within, hemispheres, of-hemispheres, departures, text-long}
 use Rattle.writing.proofs.GivenLaws.{pair-kept, place-kept}
 
 -- no sign of the air or the sea is 6

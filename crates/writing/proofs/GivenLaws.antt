@@ -13,6 +13,7 @@ use lib.ListN.{length}
 use Rattle.text.specs.Bytes.{every, between, either, blank, digits, number, valueFrom}
 use Rattle.text.specs.declared.Texts.the-variants.{Within}
 use Rattle.text.specs.Texts.{among, allows}
+use Rattle.text.proofs.Among.{either-half}
 use Rattle.text.proofs.Ways.{and-first, and-second}
 use Rattle.numerals.specs.Spelling.{spelled, spell, inDigits, inBlanks}
 use Rattle.layout.specs.declared.Edition.{Edition}
@@ -25,7 +26,7 @@ use Rattle.reading.specs.declared.Reading.{Reading}
 use Rattle.reading.specs.declared.Reading.the-variants.{Missing, Amount}
 use Rattle.reading.specs.Readings.{temperature, placeOf}
 use Rattle.writing.specs.Spelled.{amountNumeral, numeralFor}
-use Rattle.writing.proofs.BackLaws.{Holds, either-of, sign-back, value-back, digit-back, latitude-back, longitude-back}
+use Rattle.writing.proofs.BackLaws.{Holds, sign-back, value-back, digit-back, latitude-back, longitude-back}
 
 -- blanks are legal where they may stand
 blank-legal : (ed : Edition) (e : ℕ) (t : List ℕ) → mayBeBlank e ≡ true → blank t ≡ true → legalText ed e t ≡ true
@@ -78,7 +79,7 @@ module _ (ed : Edition) (e f : ℕ) (s v t u : List ℕ) (g : among 16 18 28 50 
       ⊎-elim
       (λ c. let d : number s ≡ 1 = eqb-true _ _ c in as-zero Measured 0 (rw (a, b, d, z)) (rw g) zero-sign refl)
       (λ c. let d : number s ≡ 6 = eqb-true _ _ c in as-zero Computed 5 (rw (a, b, d, z)) (rw g) (five-sign a d) refl)
-      (either-of (eqb (number s) 1) (eqb (number s) 6) (and-first _ _ h))
+      (either-half (eqb (number s) 1) (eqb (number s) 6) (and-first _ _ h))
 
   pub pair-kept : Kept
   unfolding temperature

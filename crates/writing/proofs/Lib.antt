@@ -11,6 +11,7 @@ pub mod EachLaws
 pub mod GivenLaws
 pub mod DoneLaws
 pub mod Demand1Outcomes
+pub mod Demand1Numbers
 pub mod Demand2Written
 pub mod Demand2Back
 pub mod Demand2Ties

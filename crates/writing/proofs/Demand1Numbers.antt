@@ -1,0 +1,39 @@
+-- Demand 1: numbers are taken whole. A number past the columns is refused with 6 and does not wrap to one that fits; antt computes the outcome. Assumes nothing.
+use mathlib.Core.Path.{_≡_, refl}
+use Prim.Native.Nat.{_-_}
+use lib.IntN.{negsuc}
+use Rattle.text.specs.First.{firstFrom}
+use Rattle.text.specs.Bytes.{every, valueFrom}
+use Rattle.text.specs.Texts.{allows}
+use Rattle.numerals.specs.Spelling.{spelled}
+use Rattle.layout.specs.declared.Edition.the-variants.{Four}
+use Rattle.layout.specs.declared.Refusal.the-variants.{Illegal}
+use Rattle.layout.specs.Page.{element, page, columns, startOf, textOf, legal}
+use Rattle.ties.specs.Ties.{placeTie, octantFits, octantTie, signTie, lastDigit, digitTie, windTie, tie}
+use Rattle.reading.specs.declared.Kind.the-variants.{Measured}
+use Rattle.reading.specs.declared.Reading.{Reading}
+use Rattle.reading.specs.declared.Reading.the-variants.{Code, Text, Amount}
+use Rattle.reading.specs.Readings.{plain, temperature, departure, south, west, placeOf, itemOf}
+use Rattle.writing.specs.declared.Outcome.the-variants.{Unwritten}
+use Rattle.writing.specs.Same.{partsOf, same}
+use Rattle.writing.specs.Spelled.{amountNumeral, placeNumeral, numeralFor, rowFrom, recordOf}
+use Rattle.writing.specs.Written.{writes, writtenIn}
+use Rattle.writing.proofs.Demand2TiesBroken.{missing, said, of-edition}
+
+-- 2 to the 32 and 3 is no month, though its last 32 bits are 3
+pub whole-code : writtenIn Four (said 3 (Code 4294967299) (of-edition 3 4)) 159 ≡ Unwritten (Illegal 3)
+unfolding writtenIn missing said recordOf rowFrom spelled numeralFor amountNumeral placeNumeral writes legal allows every valueFrom textOf startOf columns element page tie firstFrom itemOf plain temperature placeOf departure south west same partsOf octantTie octantFits placeTie signTie digitTie lastDigit windTie
+whole-code = refl
+
+-- the lowest amount there is
+abbrev pub farthest : Reading
+farthest = Amount (negsuc 9223372036854775807) Measured
+
+pub whole-amount : writtenIn Four (said 16 farthest (said 17 farthest (of-edition 3 4))) 159 ≡ Unwritten (Illegal 16)
+unfolding writtenIn missing said recordOf rowFrom spelled numeralFor amountNumeral placeNumeral writes legal allows every valueFrom textOf startOf columns element page tie firstFrom itemOf plain temperature placeOf departure south west same partsOf octantTie octantFits placeTie signTie digitTie lastDigit windTie
+whole-amount = refl
+
+-- the greatest text there is
+pub whole-text : writtenIn Four (said 42 (Text 18446744073709551615) (of-edition 3 4)) 159 ≡ Unwritten (Illegal 42)
+unfolding writtenIn missing said recordOf rowFrom spelled numeralFor amountNumeral placeNumeral writes legal allows every valueFrom textOf startOf columns element page tie firstFrom itemOf plain temperature placeOf departure south west same partsOf octantTie octantFits placeTie signTie digitTie lastDigit windTie
+whole-text = refl

@@ -3,7 +3,7 @@ use mathlib.Core.Path.{_≡_, refl}
 use Prim.Native.Nat.{_-_}
 use lib.IntN.{negsuc}
 use Rattle.text.specs.First.{firstFrom}
-use Rattle.text.specs.Bytes.{every, valueFrom}
+use Rattle.text.specs.Bytes.{every, valueFrom, run}
 use Rattle.text.specs.Texts.{allows}
 use Rattle.numerals.specs.Spelling.{spelled}
 use Rattle.layout.specs.declared.Edition.the-variants.{Four}
@@ -35,5 +35,5 @@ whole-amount = refl
 
 -- the greatest text there is
 pub whole-text : writtenIn Four (said 42 (Text 18446744073709551615) (of-edition 3 4)) 159 ≡ Unwritten (Illegal 42)
-unfolding writtenIn missing said recordOf rowFrom spelled numeralFor amountNumeral placeNumeral writes legal allows every valueFrom textOf startOf columns element page tie firstFrom itemOf plain temperature placeOf departure south west same partsOf octantTie octantFits placeTie signTie digitTie lastDigit windTie
+unfolding writtenIn missing said recordOf rowFrom spelled numeralFor amountNumeral placeNumeral writes legal allows every valueFrom textOf startOf columns element page tie firstFrom itemOf plain temperature placeOf departure south west same partsOf octantTie octantFits placeTie signTie digitTie lastDigit windTie run
 whole-text = refl

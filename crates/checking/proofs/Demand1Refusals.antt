@@ -2,7 +2,7 @@
 --     refused-exactly   check answers refusal n with place p exactly when rule n fails at p, every earlier rule holds, and the same rule holds at every
 --                       lower place
 --     only-one          two answers that fit a record are equal
-use mathlib.Core.Path.{_≡_, refl, sym, ap, _∙_}
+use mathlib.Core.Path.{_≡_, sym, ap, _∙_}
 use mathlib.Core.Logic.{_↔_}
 use mathlib.Core.List.{List}
 use Prim.Native.Nat.{ℕ, _<_}
@@ -13,7 +13,7 @@ use Rattle.layout.proofs.RefusalLaws.{same-refusal, numbered}
 use Rattle.checking.specs.declared.Answer.{Answer}
 use Rattle.checking.specs.declared.Answer.the-variants.{Accepted, Refused}
 use Rattle.checking.specs.Check.{checked, answerNumber, answerPlace}
-use Rattle.checking.specs.Rules.{rule, FirstFailure}
+use Rattle.checking.specs.Rules.{FirstFailure}
 use Rattle.checking.specs.Acceptable.{Fits}
 use Rattle.checking.proofs.Told.{Told, told, same-failure, apart}
 use Rattle.checking.proofs.Demand2Acceptance.{accepted-exactly}

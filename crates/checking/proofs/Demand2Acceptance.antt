@@ -1,22 +1,19 @@
 -- Demand 2: a record is accepted exactly when it has the columns, codes and ties of its edition. Assumes nothing.
-use mathlib.Core.Path.{_≡_, refl, sym, ap, _∙_}
+use mathlib.Core.Path.{_≡_, refl, ap, _∙_}
 use mathlib.Core.Logic.{_↔_}
 use mathlib.Core.Bool.{Bool, true}
-use mathlib.Core.List.{List, []}
-use Prim.Native.Nat.{ℕ, zero, suc, _+_, _<_, _≤_}
-use native.Mathlib.Nat.{le-of-suc-le-suc}
+use mathlib.Core.List.{List}
+use Prim.Native.Nat.{ℕ, _+_, _<_, _≤_}
 use native.Mathlib.Omega.{arith}
 use borrow.Author.Tests.{eq-eqb}
 use lib.ListN.{length}
-use Rattle.text.specs.First.{firstOf}
 use Rattle.text.proofs.First.{none-of-all}
 use Rattle.layout.specs.declared.Edition.{Edition}
 use Rattle.layout.specs.declared.Edition.the-variants.{One, Three, Four}
 use Rattle.layout.specs.Editions.{lengthOf, lastOf}
 use Rattle.layout.specs.Page.{legal}
 use Rattle.ties.specs.Ties.{tie}
-use Rattle.checking.specs.declared.Answer.{Answer}
-use Rattle.checking.specs.declared.Answer.the-variants.{Accepted, Refused}
+use Rattle.checking.specs.declared.Answer.the-variants.{Accepted}
 use Rattle.checking.specs.Check.{knownLength, printableAt, checkedIn, checked}
 use Rattle.checking.specs.Acceptable.{Acceptable, Fits}
 use Rattle.checking.proofs.Told.{Told, told}

@@ -11,7 +11,6 @@ use Rattle.text.specs.Bytes.{every, between, blank, toLastNonBlank}
 use Rattle.layout.specs.declared.Edition.{Edition}
 use Rattle.layout.specs.declared.Refusal.{Refusal}
 use Rattle.layout.specs.Page.{textOf, startOf, element, columns, page}
-use Rattle.checking.specs.declared.Answer.{Answer}
 use Rattle.checking.specs.declared.Answer.the-variants.{Accepted, Refused}
 use Rattle.checking.specs.Check.{checked, callSignOf}
 

@@ -3,9 +3,9 @@
 use mathlib.Core.Path.{_≡_, refl, sym, ap, _∙_}
 use mathlib.Core.Logic.{⊎-elim}
 use mathlib.Core.Bool.{Bool, true, false, cond, true≢false}
-use mathlib.Core.List.{List, [], _∷_}
+use mathlib.Core.List.{List}
 use Prim.Native.Nat.{ℕ, zero, suc, _+_, _<_, _≤_}
-use native.Mathlib.Nat.{le-of-suc-le-suc, not-suc-le-zero, eq-or-lt-of-le}
+use native.Mathlib.Nat.{le-of-suc-le-suc, eq-or-lt-of-le}
 use native.Mathlib.Omega.{arith}
 use borrow.Author.Tests.{eq-eqb, ne-eqb, eqb-true, leb-true, leb-false}
 use lib.Dec.{eqb, leb}
@@ -25,7 +25,7 @@ use Rattle.checking.specs.declared.Answer.{Answer}
 use Rattle.checking.specs.declared.Answer.the-variants.{Accepted, Refused}
 use Rattle.checking.specs.Check.{column, knownLength, printableAt, knownFormat, named, unless, refusedAt, checkedIn, checked}
 use Rattle.checking.specs.Rules.{only, isKnown, ofEdition, rules, rule, FirstFailure}
-use Rattle.checking.specs.Acceptable.{Acceptable, Fits}
+use Rattle.checking.specs.Acceptable.{Fits}
 use Rattle.layout.proofs.Beyond.{legal-none, legal-zero}
 use Rattle.ties.proofs.TieLaws.{tie-none, tie-zero}
 use Rattle.checking.proofs.Placed.{column-none, blank-zero}

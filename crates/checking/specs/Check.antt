@@ -7,7 +7,6 @@ use lib.Dec.{eqb}
 use lib.ListN.{length, getD}
 use Rattle.text.specs.Bytes.{between, printable, toLastNonBlank}
 use Rattle.text.specs.First.{firstOf}
-use Rattle.layout.specs.declared.Edition.{Edition}
 use Rattle.layout.specs.declared.Named.{Named}
 use Rattle.layout.specs.declared.Named.the-variants.{Known, Unknown}
 use Rattle.layout.specs.declared.Refusal.{Refusal}

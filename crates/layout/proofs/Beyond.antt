@@ -1,12 +1,12 @@
 -- A number of no element: there is nothing written there, and nothing that is not legal. Assumes nothing.
-use mathlib.Core.Path.{_≡_, refl, sym, ap, _∙_}
-use mathlib.Core.Bool.{Bool, true}
+use mathlib.Core.Path.{_≡_, refl, sym}
+use mathlib.Core.Bool.{true}
 use mathlib.Core.List.{List, []}
 use Prim.Native.Nat.{ℕ, zero, suc, _+_, _<_, _≤_}
 use native.Mathlib.Omega.{arith}
 use borrow.Author.Tests.{ne-eqb}
 use lib.Dec.{lit≤}
-use lib.ListN.{length, take, drop, drop-of-length-le, List·getD-eq-default}
+use lib.ListN.{length, take, drop-of-length-le, List·getD-eq-default}
 use Rattle.text.specs.Bytes.{every}
 use Rattle.layout.specs.declared.Edition.{Edition}
 use Rattle.layout.specs.declared.Edition.the-variants.{One, Three, Four}

@@ -1,20 +1,20 @@
 -- Where the elements of the page stand: one after the other, at most seven columns wide. Assumes nothing.
-use mathlib.Core.Path.{_≡_, refl, sym, ap, _∙_}
+use mathlib.Core.Path.{_≡_, refl, sym}
 use mathlib.Core.Bool.{Bool, true, _&&_}
 use mathlib.Core.List.{List, [], _∷_}
-use Prim.Native.Nat.{ℕ, zero, suc, _+_, _-_, _≤_, _<_, zero-le}
+use Prim.Native.Nat.{ℕ, zero, suc, _+_, _-_, _≤_, zero-le}
 use native.Mathlib.Nat.{add-zero, zero-add, add-assoc, le-refl, not-suc-le-zero, le-of-suc-le-suc, eq-or-lt-of-le}
 use native.Mathlib.Numerals.{add-one}
 use native.Mathlib.Omega.{arith}
 use mathlib.Core.Logic.{⊎-elim}
 use borrow.Author.Tests.{leb-true}
 use lib.Dec.{leb}
-use lib.ListN.{length, getD, take, drop}
+use lib.ListN.{getD, take}
 use Rattle.text.proofs.Ways.{and-first, and-second}
 use Rattle.layout.specs.Editions.{lengthOf, lastOf}
 use Rattle.layout.specs.declared.Edition.{Edition}
 use Rattle.layout.specs.declared.Edition.the-variants.{One, Three, Four}
-use Rattle.layout.specs.Page.{Element, page, none, elements, element, widthOf, columns, startOf, textOf}
+use Rattle.layout.specs.Page.{Element, page, none, elements, element, widthOf, columns, startOf}
 
 -- one element more
 next : (l : List Element) (e : ℕ) → columns (take (suc e) l) ≡ columns (take e l) + (getD l e none) .width

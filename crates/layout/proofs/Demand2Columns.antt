@@ -3,7 +3,7 @@
 --     one-by-one     each element starts where the one before it ends, the first in the first column
 --     printed        the columns of some elements, as the published page prints them
 use mathlib.Core.Path.{_≡_, refl}
-use mathlib.Core.List.{List, [], _∷_, map}
+use mathlib.Core.List.{[], _∷_, map}
 use Prim.Native.Nat.{ℕ, _+_}
 use lib.ListN.{take}
 use Rattle.layout.specs.declared.Edition.{Edition}

@@ -1,8 +1,8 @@
 -- A text that is spelled from what it says is the text again: digits, blanks and bytes of any kind. Assumes nothing.
 use mathlib.Core.Path.{_≡_, refl, sym, ap, _∙_}
-use mathlib.Core.Bool.{Bool, true, _&&_}
+use mathlib.Core.Bool.{true}
 use mathlib.Core.List.{List, [], _∷_}
-use Prim.Native.Nat.{ℕ, zero, suc, _+_, _-_, _*_, _/_, _%_, _^_, _<_, _≤_}
+use Prim.Native.Nat.{ℕ, zero, suc, _+_, _-_, _*_, _/_, _^_, _<_, _≤_}
 use native.Mathlib.Nat.{pow-suc, add-mul-div-right, add-mul-mod-self-right}
 use native.Mathlib.Omega.{arith}
 use borrow.Author.Tests.{leb-true}

@@ -2,7 +2,7 @@
 use mathlib.Core.Path.{_≡_, refl, sym, ap, _∙_}
 use mathlib.Core.List.{List, [], _∷_, _++_, append-assoc, append-nil}
 use Prim.Native.Nat.{ℕ, zero, suc, _+_, _-_, _*_, _/_, _%_, _^_, _<_, _≤_}
-use native.Mathlib.Nat.{add-zero, zero-add, add-suc, mod-lt, div-add-mod', div-lt-iff-lt-mul, add-sub-cancel-left, le-of-suc-le-suc, not-suc-le-zero, pow-suc, pow-zero, pow-le-pow-right}
+use native.Mathlib.Nat.{add-zero, div-add-mod', div-lt-iff-lt-mul, add-sub-cancel-left, not-suc-le-zero, pow-suc, pow-zero, pow-le-pow-right}
 use native.Mathlib.Numerals.{add-one}
 use native.Mathlib.Omega.{arith}
 use lib.Dec.{lit<}

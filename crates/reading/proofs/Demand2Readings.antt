@@ -1,9 +1,9 @@
 -- Demand 2: each reading is what the published layout gives. Of an accepted record every element of its edition is read, and what it reads as is said by the
 -- kind of item, from the texts in its columns; `printed` and `one-by-one` of the layout's promises say which columns those are. Assumes nothing.
-use mathlib.Core.Path.{_≡_, refl, sym, ap, _∙_}
-use mathlib.Core.Bool.{Bool, true, false, _&&_}
+use mathlib.Core.Path.{_≡_, refl, ap}
+use mathlib.Core.Bool.{true, false, _&&_}
 use mathlib.Core.List.{List}
-use Prim.Native.Nat.{ℕ, _+_, _-_, _<_, _≤_}
+use Prim.Native.Nat.{ℕ, _+_, _-_, _≤_}
 use borrow.Author.Tests.{le-leb}
 use lib.Dec.{leb, lit≤}
 use Rattle.text.specs.Texts.{among}
@@ -13,7 +13,6 @@ use Rattle.layout.specs.declared.Refusal.{Refusal}
 use Rattle.layout.specs.declared.Refusal.the-variants.{NoElement}
 use Rattle.layout.specs.Editions.{lastOf}
 use Rattle.layout.specs.Page.{textOf}
-use Rattle.checking.specs.declared.Answer.{Answer}
 use Rattle.checking.specs.declared.Answer.the-variants.{Accepted, Refused}
 use Rattle.checking.specs.Check.{checked}
 use Rattle.reading.specs.declared.Reading.{Reading}

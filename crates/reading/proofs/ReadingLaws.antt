@@ -1,12 +1,12 @@
 -- What each way through the code that reads says of the reading. Assumes nothing.
 use mathlib.Core.Path.{_≡_, refl, sym, ap, _∙_}
-use mathlib.Core.Bool.{Bool, true, false, cond, not, _||_, true≢false}
+use mathlib.Core.Bool.{Bool, true, false, cond, not, true≢false}
 use mathlib.Core.List.{List}
 use Prim.Native.Nat.{ℕ, _+_, _-_, _%_, _≤_, _<_}
 use native.Mathlib.Omega.{arith}
-use borrow.Author.Tests.{eq-eqb, ne-eqb, le-leb, lt-leb, eqb-true}
+use borrow.Author.Tests.{eq-eqb, ne-eqb, le-leb, lt-leb}
 use native.Mathlib.Nat.{le-refl}
-use lib.Dec.{leb, eqb, lit≤}
+use lib.Dec.{leb, lit≤}
 use lib.IntN.{ℤ}
 use Rattle.text.specs.Bytes.{blank, digits, number, word}
 use Rattle.text.specs.Texts.{among}
@@ -20,7 +20,6 @@ use Rattle.checking.specs.declared.Answer.the-variants.{Accepted}
 use Rattle.checking.specs.Check.{checked}
 use Rattle.reading.specs.declared.Kind.{Kind}
 use Rattle.reading.specs.declared.Kind.the-variants.{Measured}
-use Rattle.reading.specs.declared.Place.{Place}
 use Rattle.reading.specs.declared.Reading.{Reading}
 use Rattle.reading.specs.declared.Reading.the-variants.{Missing, Code, Text, Amount, At}
 use Rattle.reading.specs.Readings.{signed, alwaysText, codeOf, plain, below, kindOf, temperature, departure, south, west, east, placeOf, lead, itemOf, readingOf}

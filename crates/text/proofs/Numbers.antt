@@ -10,7 +10,7 @@ use borrow.Author.Tests.{ne-eqb}
 use lib.Dec.{eqb, lit<}
 use lib.ListN.{length, getD, drop, drop-of-length-le}
 use lib.Seq.{drop-cons}
-use Rattle.text.specs.Bytes.{valueFrom, numberFrom, number, isDigit, digits}
+use Rattle.text.specs.Bytes.{valueFrom, number, isDigit, digits}
 use Rattle.text.specs.Texts.{among, numeralFrom, numeral}
 use Rattle.text.specs.declared.Numeral.{Numeral}
 use Rattle.text.specs.declared.Numeral.the-variants.{Digits, Other}

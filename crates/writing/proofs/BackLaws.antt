@@ -1,29 +1,27 @@
 -- The columns of an item, spelled from what they read as, are the columns again. Assumes nothing.
 use mathlib.Core.Path.{_≡_, refl, sym, ap, _∙_}
-use mathlib.Core.Bool.{Bool, true, false, cond, not, _&&_, _||_, Bool·beq, true≢false}
-use mathlib.Core.Logic.{_⊎_, inl, inr, ⊎-elim}
+use mathlib.Core.Bool.{Bool, true, false, cond, not, _&&_, Bool·beq, true≢false}
+use mathlib.Core.Logic.{_⊎_, ⊎-elim}
 use mathlib.Core.List.{List}
 use Prim.Native.Nat.{ℕ, zero, suc, _+_, _-_, _%_, _^_, _<_, _≤_}
 use native.Mathlib.Nat.{mod-eq-of-lt, mod-eq-sub-mod}
 use native.Mathlib.Omega.{arith}
 use borrow.Author.Tests.{eqb-true, leb-true, le-leb, lt-leb}
 use lib.Dec.{eqb, leb, lit<}
-use lib.IntN.{ℤ, pos, negsuc, negℤ, natAbs}
+use lib.IntN.{natAbs}
 use lib.ListN.{length}
 use Rattle.text.specs.Bytes.{every, between, either, printable, blank, digits, number, word}
 use Rattle.text.specs.Texts.{among}
 use Rattle.text.proofs.Among.{either-half}
 use Rattle.text.proofs.Ways.{and-first, and-second}
-use Rattle.numerals.specs.Spelling.{spelled, spell, inDigits, inBytes, inBlanks}
+use Rattle.numerals.specs.Spelling.{spelled, spell}
 use Rattle.numerals.proofs.Backs.{digits-back, blanks-back, bytes-back, spelled-beyond}
 use Rattle.layout.specs.declared.Edition.{Edition}
 use Rattle.layout.specs.Page.{element, page, widthOf}
 use Rattle.ties.specs.Ties.{placeTie, signTie}
 use Rattle.ties.specs.Ties as Ties
-use Rattle.reading.specs.declared.Kind.the-variants.{Measured}
-use Rattle.reading.specs.declared.Reading.{Reading}
-use Rattle.reading.specs.declared.Reading.the-variants.{Missing, Code, Text, Amount, At}
-use Rattle.reading.specs.Readings.{signed, negative, alwaysText, codeOf, plain, below, kindOf, temperature, departure, south, west, east, placeOf}
+use Rattle.reading.specs.declared.Reading.the-variants.{Missing, Code, Text}
+use Rattle.reading.specs.Readings.{signed, negative, alwaysText, plain, below, kindOf, temperature, departure, south, west, east, placeOf}
 use Rattle.writing.specs.Spelled.{signDigit, amountNumeral, placeNumeral, numeralFor}
 
 -- a text that is blank, or digits whose number passes the test p

@@ -1,24 +1,22 @@
 -- Demand 1: write answers the refusal that document 01 fixes, in its order, with its place; two outcomes that fit are equal; and a refused call writes nothing to
 -- the lent buffer. Assumes nothing.
-use mathlib.Core.Path.{_≡_, refl, sym, ap, _∙_}
+use mathlib.Core.Path.{_≡_, refl, sym, _∙_}
 use mathlib.Core.Logic.{_↔_}
-use mathlib.Core.Bool.{Bool, true, false, true≢false}
-use mathlib.Core.List.{List, _++_}
-use Prim.Native.Nat.{ℕ, _+_, _<_, _≤_}
+use mathlib.Core.List.{List}
+use Prim.Native.Nat.{ℕ, _+_}
 use native.Mathlib.Omega.{arith}
-use borrow.Author.Tests.{ne-eqb, lt-leb, leb-true, leb-false}
-use lib.Dec.{leb}
-use lib.ListN.{length, drop}
+use borrow.Author.Tests.{ne-eqb, lt-leb}
+use lib.ListN.{length}
 use Rattle.text.proofs.First.{none-of-all, first-of}
 use Rattle.layout.specs.declared.Edition.{Edition}
 use Rattle.layout.specs.declared.Named.{Named}
 use Rattle.layout.specs.declared.Named.the-variants.{Known, Unknown}
 use Rattle.layout.specs.declared.Refusal.{Refusal}
-use Rattle.layout.specs.Editions.{asked, lengthOf}
+use Rattle.layout.specs.Editions.{asked}
 use Rattle.ties.specs.Ties.{tie}
 use Rattle.reading.specs.declared.Reading.{Reading}
 use Rattle.writing.specs.declared.Outcome.{Outcome}
-use Rattle.writing.specs.declared.Outcome.the-variants.{Done, Unwritten}
+use Rattle.writing.specs.declared.Outcome.the-variants.{Unwritten}
 use Rattle.writing.specs.Spelled.{recordOf}
 use Rattle.writing.specs.Written.{writes, writtenIn, writtenAs, written, filledBy, afterAs, after}
 use Rattle.writing.specs.Fits.{AllGivable, FitsIn, ungivable, broken, cramped, written as fully, Fits, unheld, held}

@@ -15,13 +15,16 @@ use Rattle.layout.specs.Page.{widthOf, textOf, legal}
 use Rattle.layout.proofs.Elements.{last-below}
 use Rattle.layout.proofs.Beyond.{legal-none}
 use Rattle.ties.specs.Ties.{tie}
+use Rattle.checking.specs.declared.Answer.the-variants.{Accepted}
+use Rattle.checking.specs.Check.{checked}
 use Rattle.checking.specs.Acceptable.{Acceptable}
+use Rattle.checking.proofs.Demand2Acceptance.{accepted-exactly}
 use Rattle.reading.specs.declared.Reading.{Reading}
 use Rattle.reading.specs.Readings.{lead, itemOf, readingOf}
 use Rattle.reading.proofs.ReadingLaws.{lead-is}
 use Rattle.writing.specs.declared.Outcome.the-variants.{Done}
 use Rattle.writing.specs.Spelled.{numeralFor, given, recordOf}
-use Rattle.writing.specs.Written.{writes, writtenIn, written, filledBy, afterAs, after}
+use Rattle.writing.specs.Written.{writes, writtenIn, writtenAs, written, filledBy, afterAs, after}
 use Rattle.writing.proofs.SameLaws.{same-self}
 use Rattle.writing.proofs.RecordLaws.{record-long, record-text, same-record}
 use Rattle.writing.proofs.DoneLaws.{means-done}
@@ -61,3 +64,12 @@ module _ (ed : Edition) (xs : List ℕ) (a : Acceptable ed xs) (rs : List Readin
   pub buffer-back : (edition : ℕ) → asked edition ≡ Known ed → (before : List ℕ) → lengthOf ed ≤ length before → after rs edition before ≡ xs ++ drop (lengthOf ed) before
   unfolding afterAs filledBy
   buffer-back edition e before h = rw (e, written-back (length before) h, record-back)
+
+-- the same of the call: an accepted record whose elements are read, and written to its own edition where there is room
+pub read-and-written-back : (ed : Edition) (xs : List ℕ) → checked xs ≡ Accepted ed → (rs : List Reading) → ((e : ℕ) → 1 ≤ e → e ≤ 101 → given rs e ≡ readingOf ed xs e) →
+    (edition : ℕ) → asked edition ≡ Known ed → (before : List ℕ) → lengthOf ed ≤ length before →
+    (written rs edition (length before) ≡ Done) × (after rs edition before ≡ xs ++ drop (lengthOf ed) before)
+unfolding writtenAs
+read-and-written-back ed xs accepted rs as-read edition names before room =
+    let a = accepted-exactly xs ed .0 accepted in
+    (rw names (written-back ed xs a rs as-read (length before) room), buffer-back ed xs a rs as-read edition names before room)

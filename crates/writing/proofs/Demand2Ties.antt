@@ -16,7 +16,7 @@ use Rattle.text.proofs.Ways.{and-first, and-second}
 use Rattle.numerals.specs.Spelling.{spelled, spell, inDigits, inBlanks}
 use Rattle.layout.specs.declared.Edition.{Edition}
 use Rattle.layout.specs.declared.Refusal.the-variants.{Broken}
-use Rattle.layout.specs.Page.{element, page, columns, widthOf, textOf}
+use Rattle.layout.specs.Page.{element, page, widthOf, textOf}
 use Rattle.layout.proofs.Beyond.{last-above}
 use Rattle.ties.specs.Ties.{placeTie, signTie, tie}
 use Rattle.ties.specs.Ties as Ties

@@ -1,11 +1,10 @@
 -- The columns of each element of an acceptable record, spelled from its reading, are its columns again. Assumes nothing.
 use mathlib.Core.Path.{_≡_, refl, sym, ap, _∙_}
 use mathlib.Core.Bool.{Bool, true, false, _&&_, _||_}
-use mathlib.Core.Logic.{⊎-elim}
 use mathlib.Core.List.{List}
 use Prim.Native.Nat.{ℕ, _+_, _-_, _≤_}
 use native.Mathlib.Omega.{arith}
-use borrow.Author.Tests.{eqb-true, le-leb}
+use borrow.Author.Tests.{le-leb}
 use lib.Dec.{eqb, lit≤}
 use lib.ListN.{length, drop, length-drop}
 use lib.Seq.{length-take-le}
@@ -25,7 +24,6 @@ use Rattle.ties.specs.Ties.{tie, signTie}
 use Rattle.checking.specs.Acceptable.{Acceptable}
 use Rattle.reading.specs.declared.Reading.{Reading}
 use Rattle.reading.specs.Readings.{temperature, lead, itemOf, readingOf}
-use Rattle.writing.specs.Same.{same}
 use Rattle.writing.specs.Spelled.{numeralFor}
 use Rattle.writing.proofs.PrintLaws.{legal-prints}
 use Rattle.writing.proofs.BackLaws.{Holds, empty, holds, greatest, plain-back, sign-back, value-back, departure-back, digit-back, latitude-back, longitude-back}

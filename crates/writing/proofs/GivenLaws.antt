@@ -1,16 +1,15 @@
 -- Readings that some legal texts give are given by the texts that the writer spells. Where the two texts differ it is because more than one text gives the
 -- reading: a sign without its temperature reads as missing, and so do blanks; minus zero is zero. Assumes nothing.
 use mathlib.Core.Path.{_≡_, refl, sym, ap, _∙_}
-use mathlib.Core.Bool.{Bool, true, false, cond, not, _&&_, _||_, Bool·beq, true≢false}
+use mathlib.Core.Bool.{Bool, true, false, _&&_, _||_}
 use mathlib.Core.Logic.{⊎-elim}
 use mathlib.Core.List.{List, [], _∷_}
-use Prim.Native.Nat.{ℕ, _+_, _-_, _<_, _≤_}
-use native.Mathlib.Omega.{arith}
+use Prim.Native.Nat.{ℕ, _-_}
 use borrow.Author.Tests.{eqb-true}
-use lib.Dec.{eqb, leb, lit≤}
-use lib.IntN.{ℤ, pos, natAbs}
+use lib.Dec.{eqb}
+use lib.IntN.{pos}
 use lib.ListN.{length}
-use Rattle.text.specs.Bytes.{every, between, either, blank, digits, number, valueFrom}
+use Rattle.text.specs.Bytes.{every, between, either, blank, number, valueFrom}
 use Rattle.text.specs.declared.Texts.the-variants.{Within}
 use Rattle.text.specs.Texts.{among, allows}
 use Rattle.text.proofs.Among.{either-half}
@@ -22,7 +21,6 @@ use Rattle.ties.specs.Ties.{placeTie, signTie}
 use Rattle.ties.specs.Ties as Ties
 use Rattle.reading.specs.declared.Kind.{Kind}
 use Rattle.reading.specs.declared.Kind.the-variants.{Measured, Computed}
-use Rattle.reading.specs.declared.Reading.{Reading}
 use Rattle.reading.specs.declared.Reading.the-variants.{Missing, Amount}
 use Rattle.reading.specs.Readings.{temperature, placeOf}
 use Rattle.writing.specs.Spelled.{amountNumeral, numeralFor}

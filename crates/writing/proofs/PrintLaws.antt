@@ -1,16 +1,16 @@
 -- A record whose elements are legal is printable, and its elements 1 and 65 are the format and the edition. Assumes nothing.
-use mathlib.Core.Path.{_≡_, refl, sym, ap, _∙_}
+use mathlib.Core.Path.{_≡_, refl, sym}
 use mathlib.Core.Bool.{Bool, true, false, cond, _&&_, _||_, true≢false}
 use mathlib.Core.List.{List, [], _∷_, _++_}
-use Prim.Native.Nat.{ℕ, zero, suc, _+_, _-_, _*_, _<_, _≤_}
+use Prim.Native.Nat.{ℕ, zero, suc, _+_, _-_, _<_, _≤_}
 use native.Mathlib.Numerals.{add-one}
 use native.Mathlib.Omega.{arith}
-use borrow.Author.Tests.{leb-true, le-leb, eq-eqb}
-use lib.Dec.{leb, eqb}
+use borrow.Author.Tests.{leb-true, le-leb}
+use lib.Dec.{leb}
 use lib.ListN.{length, getD, take, drop}
 use lib.Seq.{drop-cons, take-all, take-add}
 use Rattle.text.specs.Bytes.{every, between, printable, isDigit, isLetter, blank, digits, number, valueFrom, run}
-use Rattle.text.specs.Texts.{isSign, digitOr, callSign, allows}
+use Rattle.text.specs.Texts.{isSign, digitOr, allows}
 use Rattle.text.specs.declared.Texts.{Texts}
 use Rattle.text.specs.declared.Texts.the-variants.{Nothing, Printable, Letters, CallSign, DigitOr, Within, Either, OneOf}
 use Rattle.text.proofs.Ways.{and-first, and-second}

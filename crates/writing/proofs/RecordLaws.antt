@@ -1,23 +1,22 @@
 -- The record that is spelled: as long as its edition, each element's text where the page has it. And two records with the same texts are equal.
 -- Assumes nothing.
 use mathlib.Core.Path.{_≡_, refl, sym, ap, _∙_}
-use mathlib.Core.List.{List, [], _∷_, _++_}
-use Prim.Native.Nat.{ℕ, zero, suc, _+_, _-_, _<_, _≤_}
+use mathlib.Core.List.{List, _++_}
+use Prim.Native.Nat.{ℕ, zero, suc, _+_, _-_, _≤_}
 use native.Mathlib.Nat.{add-zero, zero-add, add-suc, suc-add, le-refl}
 use native.Mathlib.Numerals.{add-one}
 use native.Mathlib.Omega.{arith}
-use lib.ListN.{length, take, drop, length-append, length-take, length-drop}
+use lib.ListN.{length, take, drop, length-append}
 use lib.Seq.{take-all, take-at, drop-at, length-take-le, take-take, take-add, drop-drop}
 use Rattle.numerals.proofs.Spellings.{spelled-length}
 use Rattle.layout.specs.declared.Edition.{Edition}
 use Rattle.layout.specs.declared.Edition.the-variants.{Four}
 use Rattle.layout.specs.Editions.{lengthOf, lastOf}
 use Rattle.layout.specs.Page.{columns, widthOf, startOf, textOf}
-use Rattle.layout.proofs.Columns.{start-next, start-rises, start-below, filled}
+use Rattle.layout.proofs.Columns.{start-next, start-rises, filled}
 use Rattle.layout.proofs.Elements.{last-below}
 use Rattle.reading.specs.declared.Reading.{Reading}
-use Rattle.reading.specs.Readings.{lead}
-use Rattle.writing.specs.Spelled.{numeralFor, given, textFor, rowFrom, recordOf}
+use Rattle.writing.specs.Spelled.{textFor, rowFrom, recordOf}
 use Rattle.writing.proofs.RowLaws.{one-more}
 use Rattle.writing.proofs.WriteLaws.{most}
 

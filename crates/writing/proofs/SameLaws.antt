@@ -1,8 +1,8 @@
 -- Two readings that are the same in every part are equal, and a reading is the same as itself. Assumes nothing.
 use mathlib.Core.Path.{_≡_, refl, sym, ap, _∙_}
-use mathlib.Core.Bool.{Bool, true, false, cond, _&&_, Bool·beq, true≢false}
+use mathlib.Core.Bool.{Bool, true, false, Bool·beq, true≢false}
 use mathlib.Core.List.{List, [], _∷_}
-use Prim.Native.Nat.{ℕ, zero, suc}
+use Prim.Native.Nat.{ℕ}
 use borrow.Author.Tests.{eqb-true, eq-eqb}
 use lib.Dec.{eqb}
 use lib.IntN.{ℤ, pos, negsuc, natAbs}
@@ -10,7 +10,6 @@ use lib.ListN.{getD}
 use Rattle.text.proofs.Ways.{and-first, and-second}
 use Rattle.reading.specs.declared.Kind.{Kind}
 use Rattle.reading.specs.declared.Kind.the-variants.{Measured, Computed, IcedMeasured, IcedComputed}
-use Rattle.reading.specs.declared.Place.{Place}
 use Rattle.reading.specs.declared.Reading.{Reading}
 use Rattle.reading.specs.declared.Reading.the-variants.{Missing, Code, Text, Amount, At}
 use Rattle.reading.specs.Readings.{signed, negative}

@@ -1,5 +1,5 @@
 -- What each way through `write` says of the outcome and of the lent buffer. Assumes nothing.
-use mathlib.Core.Path.{_≡_, refl, sym, ap, _∙_}
+use mathlib.Core.Path.{_≡_, sym, ap, _∙_}
 use mathlib.Core.List.{List, _++_}
 use Prim.Native.Nat.{ℕ, _<_, _≤_}
 use native.Mathlib.Omega.{arith}
@@ -17,10 +17,9 @@ use Rattle.layout.specs.Editions.{lengthOf}
 use Rattle.ties.specs.Ties.{tie}
 use Rattle.reading.specs.declared.Reading.{Reading}
 use Rattle.reading.specs.Readings.{lead}
-use Rattle.writing.specs.declared.Outcome.{Outcome}
 use Rattle.writing.specs.declared.Outcome.the-variants.{Done, Unwritten}
 use Rattle.writing.specs.Spelled.{rowFrom, recordOf}
-use Rattle.writing.specs.Written.{writes, writtenIn, writtenAs, filledBy, afterAs}
+use Rattle.writing.specs.Written.{writes, writtenIn, writtenAs, afterAs}
 
 pub most : (ed : Edition) → lengthOf ed ≤ 159
 most One = lit≤ tt

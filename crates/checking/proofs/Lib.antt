@@ -6,3 +6,5 @@ pub mod Demand1Refusals
 pub mod Demand2Acceptance
 pub mod Demand2CallSign
 pub mod SignLaws
+pub mod PrintLaws
+pub mod LegalLaws

@@ -6,3 +6,4 @@ pub mod Beyond
 pub mod RefusalLaws
 pub mod Demand2Columns
 pub mod Parts
+pub mod RecordLaws

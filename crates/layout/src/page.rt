@@ -17,14 +17,14 @@ ghost use Rattle.layout.specs.Page.{widthOf, startOf, textOf, mayBeBlank
 ghost use Rattle.layout.specs.Letters.{lettered, WidthRow, LetterRow};
 
 // The widths, a digit for each.
-fn widths() -> [u8; 102]
+pub fn widths() -> [u8; 102]
     ensures { λ r. ⌜ WidthRow r ⌝ }
 {
     *b"014222134112121213134211111113112222212111721111311313112221111111111111111111111111111332233311111111"
 }
 
 // The letters of an edition.
-fn letters_in(edition: Edition) -> [u8; 102]
+pub fn letters_in(edition: Edition) -> [u8; 102]
     ensures { λ r. ⌜ LetterRow edition r ⌝ }
 {
     match edition {
@@ -104,7 +104,7 @@ pub fn columns(line: &[u8], start: usize, width: usize) -> &[u8]
 }
 
 // The number that a digit says.
-fn digit(b: u8) -> usize
+pub fn digit(b: u8) -> usize
     ensures { λ r. ⌜ r ≡ b - 48 ⌝ }
 {
     if b < 48 { 0 } else { (b - 48) as usize }
@@ -124,7 +124,7 @@ fn is_missing(e: usize, text: &[u8]) -> bool
 }
 
 // Is it that, or one of the texts that the letter stands for?
-fn is_legal(e: usize, letter: u8, text: &[u8]) -> bool
+pub fn is_legal(e: usize, letter: u8, text: &[u8]) -> bool
     requires { ⌜ length (now text) ≤ 7 ⌝ }
     ensures { λ r. ⌜ r ≡ ((mayBeBlank e && blank (now (text .entry))) || allows (lettered letter) (now (text .entry))) ⌝ }
 {

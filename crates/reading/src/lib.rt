@@ -144,7 +144,7 @@ fn departure_of(text: &[u8]) -> Reading
 }
 
 // Does the digit give the southern hemisphere?
-fn is_south(edition: Edition, digit: u32) -> bool
+pub fn is_south(edition: Edition, digit: u32) -> bool
     ensures { λ r. ⌜ r ≡ south edition digit ⌝ }
 {
     match edition {

@@ -1,6 +1,6 @@
 -- What each way through a test of two halves says of the whole: x is what the code's first test answered, y its second. Assumes nothing.
 use mathlib.Core.Path.{_≡_, refl, sym}
-use mathlib.Core.Bool.{Bool, true, false, _&&_, _||_, true≢false}
+use mathlib.Core.Bool.{Bool, true, false, _&&_, _||_, Bool·beq, true≢false, false≢true}
 
 module _ (x p : Bool) (e : x ≡ p) where
   pub or-holds : (q : Bool) → x ≡ true → x ≡ (p || q)
@@ -26,3 +26,8 @@ and-first false b e = e
 pub and-second : (a b : Bool) → (a && b) ≡ true → b ≡ true
 and-second true b e = e
 and-second false b e = absurd (true≢false (sym e))
+
+pub same-true : (a b : Bool) → a ≡ true → b ≡ Bool·beq a b
+same-true true true e = refl
+same-true true false e = refl
+same-true false b e = absurd (false≢true e)

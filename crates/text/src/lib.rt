@@ -2,7 +2,7 @@
 //
 // Every function takes the columns alone, as a part of the record. What a record's columns are is
 // the business of `layout`. The contracts cite `specs/Bytes.antt` and `specs/Texts.antt`.
-ghost use mathlib.Core.Bool.{true};
+ghost use mathlib.Core.Bool.{true, Bool·beq};
 ghost use mathlib.Core.Path.{_≡_};
 ghost use Prim.Native.Nat.{_≤_, _-_};
 ghost use lib.ListN.{length, take};
@@ -116,10 +116,17 @@ fn is_between(n: u32, a: u32, b: u32) -> bool
 }
 
 // Is the number from a to b or from c to d?
-fn is_either(n: u32, a: u32, b: u32, c: u32, d: u32) -> bool
+pub fn is_either(n: u32, a: u32, b: u32, c: u32, d: u32) -> bool
     ensures { λ r. ⌜ r ≡ either a b c d n ⌝ }
 {
     is_between(n, a, b) || is_between(n, c, d)
+}
+
+// Are both true or both false?
+pub fn same(a: bool, b: bool) -> bool
+    ensures { λ r. ⌜ r ≡ Bool·beq a b ⌝ }
+{
+    if a { b } else { !b }
 }
 
 // Is the number one of four?

@@ -13,11 +13,6 @@ use Rattle.text.proofs.Ways.{and-stops, and-goes-on}
 use Rattle.ties.specs.Ties.{there, placeTie, octantFits, negative, signTie, lastDigit, digitTie, ties, tie}
 use Rattle.layout.specs.declared.Edition.{Edition}
 
-pub same-true : (a b : Bool) → a ≡ true → b ≡ Bool·beq a b
-same-true true true e = refl
-same-true true false e = refl
-same-true false b e = absurd (false≢true e)
-
 -- two texts: both there or both blank
 module _ (s t : List ℕ) (x y r : Bool) (e : x ≡ there s) (f : y ≡ there t) (g : r ≡ Bool·beq x y) where
   pub both : r ≡ Bool·beq (there s) (there t)

@@ -18,23 +18,16 @@ fn is_there(text: &[u8]) -> bool
     !text::is_blank(text)
 }
 
-// Are both true or both false?
-pub fn same(a: bool, b: bool) -> bool
-    ensures { λ r. ⌜ r ≡ Bool·beq a b ⌝ }
-{
-    if a { b } else { !b }
-}
-
 // Tie 1.
 fn place_tie(digit: &[u8], latitude: &[u8], longitude: &[u8]) -> bool
     ensures { λ r. ⌜ r ≡ placeTie (now (digit .entry)) (now (latitude .entry)) (now (longitude .entry)) ⌝ }
 {
     let at = is_there(latitude);
-    same(is_there(digit), at) && same(at, is_there(longitude))
+    text::same(is_there(digit), at) && text::same(at, is_there(longitude))
 }
 
 // Does the longitude lie in the octant's range?
-fn octant_fits(octant: u32, longitude: u32) -> bool
+pub fn octant_fits(octant: u32, longitude: u32) -> bool
     ensures { λ r. ⌜ r ≡ octantFits octant longitude ⌝ }
 {
     if text::is_among(octant, 0, 3, 5, 8) {
@@ -82,7 +75,7 @@ fn sign_tie(sign: &[u8], value: &[u8]) -> bool
     requires { ⌜ (length (now sign) ≤ 7) × (length (now value) ≤ 7) ⌝ }
     ensures { λ r. ⌜ r ≡ signTie (now (sign .entry)) (now (value .entry)) ⌝ }
 {
-    same(is_there(sign), is_there(value))
+    text::same(is_there(sign), is_there(value))
         && !minus_zero(text::number_of(sign), text::number_of(value))
 }
 

@@ -26,7 +26,8 @@ use Rattle.writing.specs.declared.Outcome.the-variants.{Done}
 use Rattle.writing.specs.Spelled.{numeralFor, given, recordOf}
 use Rattle.writing.specs.Written.{writes, writtenIn, writtenAs, written, filledBy, afterAs, after}
 use Rattle.writing.proofs.SameLaws.{same-self}
-use Rattle.writing.proofs.RecordLaws.{record-long, record-text, same-record}
+use Rattle.writing.proofs.RecordLaws.{record-long, record-text}
+use Rattle.layout.proofs.RecordLaws.{same-record}
 use Rattle.writing.proofs.DoneLaws.{means-done}
 use Rattle.writing.proofs.ElementLaws.{lead-of-lead, element-back}
 

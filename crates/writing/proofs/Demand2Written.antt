@@ -5,18 +5,14 @@ use Prim.Native.Nat.{ℕ, _+_, _-_, _≤_}
 use native.Mathlib.Omega.{arith}
 use lib.ListN.{length, take, drop}
 use lib.Seq.{take-at, drop-at}
-use Rattle.text.specs.Bytes.{printable}
-use Rattle.text.proofs.Every.{every-at}
 use Rattle.layout.specs.declared.Edition.{Edition}
-use Rattle.layout.specs.declared.Edition.the-variants.{One, Three, Four}
 use Rattle.layout.specs.declared.Named.{Named}
 use Rattle.layout.specs.declared.Named.the-variants.{Known, Unknown}
-use Rattle.layout.specs.Editions.{lengthOf, editionOf, asked}
-use Rattle.layout.proofs.Beyond.{last-above}
+use Rattle.layout.specs.Editions.{lengthOf, asked}
 use Rattle.checking.specs.declared.Answer.the-variants.{Accepted}
-use Rattle.checking.specs.Check.{knownFormat, checked}
+use Rattle.checking.specs.Check.{checked}
 use Rattle.checking.specs.Acceptable.{Acceptable}
-use Rattle.checking.proofs.Placed.{column-at}
+use Rattle.checking.proofs.LegalLaws.{legal-record}
 use Rattle.checking.proofs.Demand2Acceptance.{accepted-exactly}
 use Rattle.reading.specs.declared.Reading.{Reading}
 use Rattle.reading.specs.Readings.{readingOf}
@@ -25,31 +21,11 @@ use Rattle.writing.specs.Spelled.{given, recordOf}
 use Rattle.writing.specs.Fits.{TiedBelow}
 use Rattle.writing.specs.Written.{writtenIn, writtenAs, written, filledBy, afterAs, after, outcomeNumber}
 use Rattle.writing.proofs.RecordLaws.{record-long}
-use Rattle.writing.proofs.PrintLaws.{record-prints, format-digit, edition-digit}
 use Rattle.writing.proofs.EachLaws.{every-legal, as-given}
 use Rattle.writing.proofs.DoneLaws.{WritesBelow, done-means}
 
--- the shortest record has 131 columns
-shortest : (ed : Edition) → 131 ≤ lengthOf ed
-shortest One = omega arith
-shortest Three = omega arith
-shortest Four = omega arith
-
-module _ (ed : Edition) (rs : List Reading) (each : WritesBelow ed rs (1 + 101)) (all : TiedBelow ed rs (1 + 9)) where
-  acceptable : Acceptable ed (recordOf ed rs)
-  acceptable =
-      let long = record-long ed rs in
-      let legal-each = every-legal ed rs each in
-      let short = shortest ed in
-      let prints = record-prints ed (recordOf ed rs) long legal-each in
-      record {
-        names = ap editionOf (column-at (recordOf ed rs) 111 (omega arith) (omega arith)) ∙ edition-digit ed (recordOf ed rs) (omega arith) (legal-each 65 (omega arith) (omega (arith, last-above ed)));
-        full = long;
-        prints = λ c h l. ap printable (column-at (recordOf ed rs) c h l) ∙ every-at printable (recordOf ed rs) prints (c - 1) (omega arith);
-        format = ap knownFormat (column-at (recordOf ed rs) 1 (omega arith) (omega arith)) ∙ format-digit ed (recordOf ed rs) (omega arith) (legal-each 1 (omega arith) (omega (arith, last-above ed)));
-        lawful = legal-each;
-        tied = λ k h l. all k h (omega arith);
-      }
+acceptable : (ed : Edition) (rs : List Reading) → WritesBelow ed rs (1 + 101) → TiedBelow ed rs (1 + 9) → Acceptable ed (recordOf ed rs)
+acceptable ed rs each all = legal-record ed (recordOf ed rs) (record-long ed rs) (every-legal ed rs each) (λ k h l. all k h (omega arith))
 
 -- check accepts what was written
 pub written-is-accepted : (ed : Edition) (rs : List Reading) (room : ℕ) → writtenIn ed rs room ≡ Done → checked (recordOf ed rs) ≡ Accepted ed

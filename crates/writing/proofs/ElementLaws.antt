@@ -25,7 +25,8 @@ use Rattle.checking.specs.Acceptable.{Acceptable}
 use Rattle.reading.specs.declared.Reading.{Reading}
 use Rattle.reading.specs.Readings.{temperature, lead, itemOf, readingOf}
 use Rattle.writing.specs.Spelled.{numeralFor}
-use Rattle.writing.proofs.PrintLaws.{legal-prints}
+use Rattle.layout.proofs.RecordLaws.{text-long}
+use Rattle.checking.proofs.PrintLaws.{legal-prints}
 use Rattle.writing.proofs.BackLaws.{Holds, empty, holds, greatest, plain-back, sign-back, value-back, departure-back, digit-back, latitude-back, longitude-back}
 
 -- elements share the reading of one that shares its own with none lower
@@ -98,13 +99,6 @@ unfolding element page allows
 departures One xs l h = absurd (omega arith)
 departures Three xs l h = in-digits (either 0 99 101 199) Three xs 91 refl h
 departures Four xs l h = in-digits (either 0 99 101 199) Four xs 91 refl h
-
--- within a record an element has as many columns as it is wide
-pub text-long : (ed : Edition) (xs : List ℕ) → length xs ≡ lengthOf ed → (e : ℕ) → e ≤ lastOf ed → length (textOf e xs) ≡ widthOf e
-unfolding textOf
-text-long ed xs full e h =
-    length-take-le (widthOf e) (drop (startOf e) xs)
-    (rw length-drop (omega (arith, full, start-next e, start-rises (e + 1) (lastOf ed + 1) (omega arith), filled ed)))
 
 -- the columns of each element of an acceptable record, spelled from its reading
 module _ (ed : Edition) (xs : List ℕ) (a : Acceptable ed xs) where

@@ -3,7 +3,6 @@ pub mod SpellLaws
 pub mod RowLaws
 pub mod WriteLaws
 pub mod RecordLaws
-pub mod PrintLaws
 pub mod SameLaws
 pub mod BackLaws
 pub mod ElementLaws

@@ -1,8 +1,7 @@
 -- The loop that spells all readings: what stands in front and what is left to spell are the whole row. Assumes nothing.
 use mathlib.Core.Path.{_≡_, sym, ap, _∙_}
 use mathlib.Core.List.{List, [], _++_, append-assoc, append-nil}
-use Prim.Native.Nat.{ℕ, suc, _+_, _-_, _<_, _≤_}
-use native.Mathlib.Numerals.{add-one}
+use Prim.Native.Nat.{ℕ, _+_, _-_, _<_, _≤_}
 use native.Mathlib.Omega.{arith}
 use lib.ListN.{length, take, drop, length-append}
 use lib.Seq.{take-all, take-at, length-take-le}
@@ -12,27 +11,26 @@ use Rattle.numerals.proofs.Spellings.{spelled-length}
 use Rattle.layout.specs.declared.Edition.{Edition}
 use Rattle.layout.specs.declared.Edition.the-variants.{Four}
 use Rattle.layout.specs.Page.{widthOf, startOf}
+use Rattle.layout.specs.Records.{rowFrom}
 use Rattle.layout.proofs.Columns.{start-next, start-below, filled}
+use Rattle.layout.proofs.RecordLaws as Records
 use Rattle.reading.specs.declared.Reading.{Reading}
 use Rattle.reading.specs.Readings.{lead}
-use Rattle.writing.specs.Spelled.{numeralFor, given, textFor, rowFrom}
+use Rattle.writing.specs.Spelled.{numeralFor, given, textFor, rowFor}
 
 -- what was placed stands in front, up to its end
 front : (at : ℕ) (t before : List ℕ) → at ≤ length before → take (at + length t) (placed at t before) ≡ take at before ++ t
 front at t before h = take-at (take at before ++ t) (drop (at + length t) before) (at + length t) (length-append (take at before) t ∙ ap (λ (k : ℕ). k + length t) (length-take-le at before h))
 
-left : (n k : ℕ) → k ≤ n → n + 1 - k ≡ suc (n + 1 - (k + 1))
-left n k h = omega arith
+one-more : (ed : Edition) (rs : List Reading) (e : ℕ) → e ≤ 101 → rowFor ed rs e (101 + 1 - e) ≡ textFor ed rs e ++ rowFor ed rs (e + 1) (101 + 1 - (e + 1))
+unfolding rowFor
+one-more ed rs e h = Records.one-more (textFor ed rs) e h
 
-pub one-more : (ed : Edition) (rs : List Reading) (e : ℕ) → e ≤ 101 → rowFrom ed rs e (101 + 1 - e) ≡ textFor ed rs e ++ rowFrom ed rs (e + 1) (101 + 1 - (e + 1))
-unfolding rowFrom
-one-more ed rs e h = ap (rowFrom ed rs e) (left 101 e h) ∙ ap (λ (k : ℕ). textFor ed rs e ++ rowFrom ed rs k (101 + 1 - (e + 1))) (sym (add-one e))
-
-module _ (ed : Edition) (rs : List Reading) (whole row : List ℕ) (at e : ℕ) (inv : take at row ++ rowFrom ed rs e (101 + 1 - e) ≡ whole) where
+module _ (ed : Edition) (rs : List Reading) (whole row : List ℕ) (at e : ℕ) (inv : take at row ++ rowFor ed rs e (101 + 1 - e) ≡ whole) where
   pub row-turn : (w : ℕ) (m : Numeral) → e ≤ 101 → at + w ≤ length row → w ≡ widthOf e → m ≡ numeralFor ed e (given rs (lead e)) →
-      take (at + w) (placed at (spell w m) row) ++ rowFrom ed rs (e + 1) (101 + 1 - (e + 1)) ≡ whole
+      take (at + w) (placed at (spell w m) row) ++ rowFor ed rs (e + 1) (101 + 1 - (e + 1)) ≡ whole
   row-turn w m h l f g =
-      let rest : List ℕ = rowFrom ed rs (e + 1) (101 + 1 - (e + 1)) in
+      let rest : List ℕ = rowFor ed rs (e + 1) (101 + 1 - (e + 1)) in
       let long : length (spell w m) ≡ w = spelled-length (m .base) (m .nought) w (m .number) in
       let taken : take (at + w) (placed at (spell w m) row) ≡ take at row ++ spell w m =
       ap (λ (k : ℕ). take (at + k) (placed at (spell w m) row)) (sym long) ∙ front at (spell w m) row (omega arith) in
@@ -41,12 +39,12 @@ module _ (ed : Edition) (rs : List Reading) (whole row : List ℕ) (at e : ℕ) 
       ap (λ (t : List ℕ). take at row ++ t) (sym (one-more ed rs e h)) ∙ inv
 
   pub row-end : length row ≡ 159 → at ≡ startOf e → 101 < e → e ≤ 102 → row ≡ whole
-  unfolding rowFrom
+  unfolding rowFor rowFrom
   row-end h f g k =
       let last : e ≡ 102 = omega arith in
       let none : 101 + 1 - e ≡ 0 = omega arith in
       let full : at ≡ 159 = f ∙ ap startOf last ∙ filled Four in
-      sym (append-nil row) ∙ ap (λ (t : List ℕ). t ++ []) (sym (take-all at row (omega arith))) ∙ ap (λ (n : ℕ). take at row ++ rowFrom ed rs e n) (sym none) ∙ inv
+      sym (append-nil row) ∙ ap (λ (t : List ℕ). t ++ []) (sym (take-all at row (omega arith))) ∙ ap (λ (n : ℕ). take at row ++ rowFor ed rs e n) (sym none) ∙ inv
 
 pub within : (at w e : ℕ) → at ≡ startOf e → w ≡ widthOf e → e ≤ 101 → (at + w ≡ startOf (e + 1)) × (at + w ≤ 159)
 within at w e f g h =

@@ -4,32 +4,27 @@ use mathlib.Core.List.{List, _++_}
 use Prim.Native.Nat.{ℕ, _<_, _≤_}
 use native.Mathlib.Omega.{arith}
 use borrow.Author.Tests.{eq-eqb, ne-eqb, le-leb, lt-leb}
-use lib.Dec.{lit≤}
 use lib.ListN.{length, take, drop}
 use lib.Seq.{take-length}
 use Rattle.text.specs.First.{firstOf}
 use Rattle.text.proofs.Parts.{front-length}
 use Rattle.layout.specs.declared.Edition.{Edition}
-use Rattle.layout.specs.declared.Edition.the-variants.{One, Three, Four}
 use Rattle.layout.specs.declared.Named.{Named}
 use Rattle.layout.specs.declared.Refusal.the-variants.{Illegal, Broken, Room}
 use Rattle.layout.specs.Editions.{lengthOf}
+use Rattle.layout.specs.Records.{recordFrom}
+use Rattle.layout.proofs.RecordLaws.{most}
 use Rattle.ties.specs.Ties.{tie}
 use Rattle.reading.specs.declared.Reading.{Reading}
 use Rattle.reading.specs.Readings.{lead}
 use Rattle.writing.specs.declared.Outcome.the-variants.{Done, Unwritten}
-use Rattle.writing.specs.Spelled.{rowFrom, recordOf}
+use Rattle.writing.specs.Spelled.{rowFor, recordOf}
 use Rattle.writing.specs.Written.{writes, writtenIn, writtenAs, afterAs}
 
-pub most : (ed : Edition) → lengthOf ed ≤ 159
-most One = lit≤ tt
-most Three = lit≤ tt
-most Four = lit≤ tt
-
 -- the front of the row is the record
-module _ (ed : Edition) (rs : List Reading) (row : List ℕ) (n : ℕ) (f : row ≡ rowFrom ed rs 1 101) (long : length row ≡ 159) (g : n ≡ lengthOf ed) where
+module _ (ed : Edition) (rs : List Reading) (row : List ℕ) (n : ℕ) (f : row ≡ rowFor ed rs 1 101) (long : length row ≡ 159) (g : n ≡ lengthOf ed) where
   pub is-record : take n row ≡ recordOf ed rs
-  unfolding recordOf
+  unfolding recordOf rowFor recordFrom
   is-record = rw (f, g)
 
   pub within-row : n ≤ length row

@@ -1,16 +1,16 @@
 -- The text that is written for a reading, and the record of them all. Whether it is legal and reads as it should is asked of it afterwards. Assumes nothing.
-use Prim.Native.Nat.{ℕ, zero, suc, _+_, _-_}
+use Prim.Native.Nat.{ℕ, _+_, _-_}
 use mathlib.Core.Bool.{Bool, cond}
-use mathlib.Core.List.{List, [], _++_}
+use mathlib.Core.List.{List}
 use lib.Dec.{eqb}
 use lib.IntN.{ℤ, natAbs}
-use lib.ListN.{getD, take}
+use lib.ListN.{getD}
 use Rattle.text.specs.Texts.{among}
 use Rattle.numerals.specs.declared.Numeral.{Numeral}
 use Rattle.numerals.specs.Spelling.{inDigits, inBytes, inBlanks, spell}
 use Rattle.layout.specs.declared.Edition.{Edition}
-use Rattle.layout.specs.Editions.{lengthOf}
 use Rattle.layout.specs.Page.{widthOf}
+use Rattle.layout.specs.Records.{rowFrom, recordFrom}
 use Rattle.reading.specs.declared.Kind.{Kind}
 use Rattle.reading.specs.declared.Kind.the-variants.{Measured, Computed, IcedMeasured, IcedComputed}
 use Rattle.reading.specs.declared.Place.{Place}
@@ -57,10 +57,9 @@ given rs e = getD rs (e - 1) Missing
 abbrev pub textFor : Edition → List Reading → ℕ → List ℕ
 textFor ed rs e = spell (widthOf e) (numeralFor ed e (given rs (lead e)))
 
--- the texts of the n elements from e on
-unfoldable pub rowFrom : Edition → List Reading → ℕ → ℕ → List ℕ
-rowFrom ed rs e zero = []
-rowFrom ed rs e (suc n) = textFor ed rs e ++ rowFrom ed rs (suc e) n
+-- the texts of the n elements from e on, and the record of them all
+unfoldable pub rowFor : Edition → List Reading → ℕ → ℕ → List ℕ
+rowFor ed rs e n = rowFrom (textFor ed rs) e n
 
 unfoldable pub recordOf : Edition → List Reading → List ℕ
-recordOf ed rs = take (lengthOf ed) (rowFrom ed rs 1 101)
+recordOf ed rs = recordFrom ed (textFor ed rs)

@@ -20,7 +20,7 @@ ghost use Rattle.text.specs.First.{firstOf};
 ghost use Rattle.text.specs.Texts.{among};
 ghost use Rattle.layout.specs.Page.{legal};
 ghost use Rattle.reading.specs.Readings.{west, east, readingOf};
-ghost use Rattle.writing.specs.Spelled.{signDigit, amountNumeral, placeNumeral, numeralFor, given, rowFrom};
+ghost use Rattle.writing.specs.Spelled.{signDigit, amountNumeral, placeNumeral, numeralFor, given, rowFor};
 ghost use Rattle.writing.specs.Same.{kindNumber, partsOf, same};
 ghost use Rattle.writing.specs.Written.{writes, writtenIn, filledBy, writtenAs, afterAs, written, after};
 
@@ -101,7 +101,7 @@ fn is_same(a: Reading, b: Reading) -> bool
     if p.case != q.case {
         return false;
     }
-    if !ties::same(p.below, q.below) {
+    if !text::same(p.below, q.below) {
         return false;
     }
     if p.first != q.first {
@@ -202,7 +202,7 @@ fn numeral_for(edition: Edition, e: usize, reading: Reading) -> Numeral
 // Spells every reading into its element's columns, all 101 elements.
 fn put_all(edition: Edition, readings: [Reading; 101], row: &mut [u8])
     requires { ⌜ length (now row) ≡ 159 ⌝ }
-    ensures { λ _. ⌜ now (row .exit) ≡ rowFrom edition readings 1 101 ⌝ }
+    ensures { λ _. ⌜ now (row .exit) ≡ rowFor edition readings 1 101 ⌝ }
 {
     let mut at = 0;
     let mut e = 1;

@@ -2,7 +2,7 @@
 use Prim.Native.Nat.{_+_, _-_, _≤_, ℕ}
 use Rattle.reading.proofs.ReadingLaws.{lead-is}
 use Rattle.writing.proofs.RowLaws.{row-end, row-turn, within}
-use Rattle.writing.specs.Spelled.{given, numeralFor, rowFrom}
+use Rattle.writing.specs.Spelled.{given, numeralFor, rowFor}
 use borrow.Author.Needs.{needs}
 use lib.ListN.{length, take}
 use mathlib.Core.List.{_++_}
@@ -14,7 +14,7 @@ use Rattle.writing.proofs.put_all.Statement.{statement}
 use Rattle.writing.proofs.put_all.Tie as tie
 
 abbrev Inv-loop : tie.InvT-loop
-Inv-loop edition row₀ readings at₀ e₀ row at e = (length row ≡ 159) × ((at ≡ startOf e) × ((1 ≤ e) × ((e ≤ 102) × (take at row ++ rowFrom edition readings e (101 + 1 - e) ≡ rowFrom edition readings 1 101))))
+Inv-loop edition row₀ readings at₀ e₀ row at e = (length row ≡ 159) × ((at ≡ startOf e) × ((1 ≤ e) × ((e ≤ 102) × (take at row ++ rowFor edition readings e (101 + 1 - e) ≡ rowFor edition readings 1 101))))
 
 abbrev μ-loop : tie.MeasureT-loop
 μ-loop edition row₀ readings at₀ e₀ row at e = 101 + 1 - e

@@ -1,8 +1,8 @@
--- `ties::same` meets its contract. Assumes nothing.
-use Rattle.ties.proofs.TieLaws.{same-true}
+-- `text::same` meets its contract. Assumes nothing.
+use Rattle.text.proofs.Ways.{same-true}
 use borrow.Author.Needs.{needs}
-use Rattle.ties.proofs.same.Statement.{statement}
-use Rattle.ties.proofs.same.Tie as tie
+use Rattle.text.proofs.same.Statement.{statement}
+use Rattle.text.proofs.same.Tie as tie
 
 returns : tie.Need-returns
 returns c = same-true _ _ (c .if1 .taken)

@@ -1,0 +1,112 @@
+// Column 12 between editions.
+//
+// A digit of column 12 gives two hemispheres, and in edition 1 a range of longitudes with them. Between
+// edition 1 and the others the lowest digit is taken that gives the same place and keeps tie 2.
+use layout::Edition;
+ghost use mathlib.Core.Path.{_≡_};
+ghost use Prim.Native.Nat.{_≤_, _-_};
+ghost use Rattle.reading.specs.Readings.{signed};
+ghost use Rattle.hemispheres.specs.Digits.{sameSigned, samePlace, keepsTie, mayStand, suits, lowestDigit, isFirst, crosses};
+
+// May the digit stand in column 12 of the edition?
+fn may_stand(edition: Edition, digit: u32) -> bool
+    requires { ⌜ digit ≤ 9 ⌝ }
+    ensures { λ r. ⌜ r ≡ mayStand edition digit ⌝ }
+{
+    match edition {
+        Edition::One => text::is_either(digit, 0, 3, 5, 8),
+        Edition::Three => text::is_among(digit, 1, 3, 5, 7),
+        Edition::Four => text::is_among(digit, 1, 3, 5, 7),
+    }
+}
+
+// Are two signed latitudes with the same tenths the same? The equator is the same north and south.
+fn is_same_latitude(a: bool, b: bool, latitude: u32) -> bool
+    ensures { λ r. ⌜ r ≡ sameSigned (signed a latitude) (signed b latitude) ⌝ }
+{
+    latitude == 0 || text::same(a, b)
+}
+
+fn wide(n: u32) -> u64
+    ensures { λ r. ⌜ r ≡ n ⌝ }
+{
+    n as u64
+}
+
+// Do two digits, each in its edition, give the same place?
+fn is_same_place(from: Edition, d: u32, to: Edition, c: u32, latitude: u32, longitude: u32) -> bool
+    ensures { λ r. ⌜ r ≡ samePlace from d to c latitude longitude ⌝ }
+{
+    if !is_same_latitude(
+        reading::is_south(from, d),
+        reading::is_south(to, c),
+        latitude,
+    ) {
+        return false;
+    }
+    let tenths = wide(longitude);
+    reading::east_of(reading::is_west(from, d), tenths)
+        == reading::east_of(reading::is_west(to, c), tenths)
+}
+
+// Does the digit keep tie 2?
+fn keeps_tie(edition: Edition, digit: u32, longitude: u32) -> bool
+    ensures { λ r. ⌜ r ≡ keepsTie edition digit longitude ⌝ }
+{
+    match edition {
+        Edition::One => ties::octant_fits(digit, longitude),
+        Edition::Three => true,
+        Edition::Four => true,
+    }
+}
+
+// May digit c stand in column 12 for digit d?
+fn is_suited(from: Edition, to: Edition, d: u32, latitude: u32, longitude: u32, c: u32) -> bool
+    requires { ⌜ c ≤ 9 ⌝ }
+    ensures { λ r. ⌜ r ≡ suits from to d latitude longitude c ⌝ }
+{
+    if !may_stand(to, c) {
+        return false;
+    }
+    is_same_place(from, d, to, c, latitude, longitude) && keeps_tie(to, c, longitude)
+}
+
+// The lowest digit of the edition `to` that gives the place of digit d and keeps tie 2, as a character;
+// 0 where there is none.
+pub fn lowest_digit(from: Edition, to: Edition, d: u32, latitude: u32, longitude: u32) -> u8
+    ensures { λ r. ⌜ r ≡ lowestDigit from to d latitude longitude ⌝ }
+{
+    let mut b = 48;
+    while b <= 57 {
+        if is_suited(from, to, d, latitude, longitude, digit_of(b)) {
+            return b;
+        }
+        b += 1;
+    }
+    0
+}
+
+// The number that a character '0' to '9' says.
+fn digit_of(b: u8) -> u32
+    requires { ⌜ 48 ≤ b ⌝ }
+    ensures { λ r. ⌜ r ≡ b - 48 ⌝ }
+{
+    (b - 48) as u32
+}
+
+fn is_first(edition: Edition) -> bool
+    ensures { λ r. ⌜ r ≡ isFirst edition ⌝ }
+{
+    match edition {
+        Edition::One => true,
+        Edition::Three => false,
+        Edition::Four => false,
+    }
+}
+
+// Is one of the two edition 1 and the other not?
+pub fn is_crossing(from: Edition, to: Edition) -> bool
+    ensures { λ r. ⌜ r ≡ crosses from to ⌝ }
+{
+    !text::same(is_first(from), is_first(to))
+}

@@ -1,0 +1,96 @@
+-- Demand 3: the two words are the set of the elements that are lost, whatever test says which these are. Assumes nothing.
+--     listed-exactly, not-listed   the list has exactly the elements from 1 to 101 that are lost
+--     rising                       in rising order, so each once
+--     test-is-membership           the test of a number's bit says whether the list has that number, whatever the number
+--     ones-are-length              the ones of the two words are as many as the list has elements
+--     lowest-is-head               the zeros below the lowest one give the first of the list, 0 where it is empty
+--     same-losses, same-list       elements that are lost alike give the same set and the same list
+--     empty-set, empty-list        where no element is lost, both are empty
+use mathlib.Core.Path.{_≡_, refl, sym, ap, ap₂, _∙_}
+use mathlib.Core.Logic.{_⊎_, inl, inr, ⊎-elim}
+use mathlib.Core.List.{List, [], _∷_, _++_}
+use mathlib.Core.Bool.{Bool, false}
+use Prim.Native.Nat.{ℕ, _+_, _-_, _<_, _≤_}
+use native.Mathlib.Nat.{add-comm}
+use native.Mathlib.Omega.{arith}
+use lib.ListN.{length, length-append}
+use Rattle.losses.specs.Losses.{elements, word, losses, noLosses, lostList, lossesOf}
+use Rattle.losses.specs.Losses.{hasBit, hasLoss, countOf, lowestOf, member, first, Rising}
+use Rattle.losses.proofs.Words.{has-bit, has-no-bit, word-ones, word-first, word-none, word-some}
+use Rattle.losses.proofs.Listed.{none-outside, listed, elements-split, elements-rise, same-word, same-elements, no-word, no-elements}
+use Rattle.losses.proofs.Ways.{up-to-or-past, has-zero, has-low, has-high, has-past, lowest-low, lowest-high, lowest-none}
+
+module _ (f : ℕ → Bool) where
+  module _ (e : ℕ) where
+    pub listed-exactly : 1 ≤ e → e ≤ 101 → member e (lostList f) ≡ f e
+    listed-exactly h l =
+        let here : 1 + (e - 1) ≡ e = omega arith in
+        ap (λ (x : ℕ). member x (lostList f)) (sym here) ∙ listed f 1 101 (e - 1) (omega arith) ∙ ap f here
+
+    pub not-listed : (e < 1) ⊎ (101 < e) → member e (lostList f) ≡ false
+    not-listed = none-outside f e 1 101
+
+    -- of the n elements from k on, the word has the bit of each that is lost
+    word-says : (k n : ℕ) → k ≤ e → e < k + n → hasBit (word f k n) (e - k) ≡ f e
+    word-says k n h l = let here : k + (e - k) ≡ e = omega arith in has-bit f k n (e - k) (omega arith) ∙ ap f here
+
+    -- the test of each run of numbers
+    in-none : e ≤ 0 → hasLoss (lossesOf f) e ≡ member e (lostList f)
+    in-none h = has-zero (lossesOf f) e (omega arith) ∙ sym (not-listed (inl (omega arith)))
+
+    in-low : 1 ≤ e → e ≤ 64 → hasLoss (lossesOf f) e ≡ member e (lostList f)
+    unfolding lossesOf
+    in-low h l = has-low (lossesOf f) e h l ∙ word-says 1 64 h (omega arith) ∙ sym (listed-exactly h (omega arith))
+
+    in-high : 64 < e → e ≤ 101 → hasLoss (lossesOf f) e ≡ member e (lostList f)
+    unfolding lossesOf
+    in-high h l = has-high (lossesOf f) e h (omega arith) ∙ word-says 65 37 h (omega arith) ∙ sym (listed-exactly (omega arith) l)
+
+    past-101 : 101 < e → e ≤ 128 → hasLoss (lossesOf f) e ≡ member e (lostList f)
+    unfolding lossesOf
+    past-101 h l = has-high (lossesOf f) e (omega arith) l ∙ has-no-bit f 65 37 (e - 65) (omega arith) ∙ sym (not-listed (inr h))
+
+    past-128 : 128 < e → hasLoss (lossesOf f) e ≡ member e (lostList f)
+    past-128 h = has-past (lossesOf f) e h ∙ sym (not-listed (inr (omega arith)))
+
+    pub test-is-membership : hasLoss (lossesOf f) e ≡ member e (lostList f)
+    test-is-membership =
+        ⊎-elim in-none
+        (λ h. ⊎-elim (in-low h) (λ h. ⊎-elim (in-high h) (λ h. ⊎-elim (past-101 h) past-128 (up-to-or-past e 128)) (up-to-or-past e 101)) (up-to-or-past e 64))
+        (up-to-or-past e 0)
+
+  pub rising : Rising (lostList f)
+  rising = elements-rise f 0 1 101 (omega arith)
+
+  pub ones-are-length : countOf (lossesOf f) ≡ length (lostList f)
+  unfolding lossesOf
+  ones-are-length = rw (word-ones f 1 64, word-ones f 65 37, elements-split f 1 64 37, length-append)
+
+  pub lowest-is-head : lowestOf (lossesOf f) ≡ first (lostList f)
+  unfolding lossesOf
+  lowest-is-head = by (elements f 1 64) refl (elements f 65 37) refl ∙ ap first (sym (elements-split f 1 64 37))
+    where
+      by : (xs : List ℕ) → elements f 1 64 ≡ xs → (ys : List ℕ) → elements f 65 37 ≡ ys → lowestOf (lossesOf f) ≡ first (xs ++ ys)
+      by (x ∷ xs) p ys q = lowest-low (lossesOf f) (word-some f 1 64 x xs p) ∙ add-comm _ 1 ∙ word-first f 1 64 64 x xs (omega arith) p
+      by [] p (y ∷ ys) q =
+          lowest-high (lossesOf f) (word-none f 1 64 p) (word-some f 65 37 y ys q) ∙ add-comm _ 65 ∙ word-first f 65 37 64 y ys (omega arith) q
+      by [] p [] q = lowest-none (lossesOf f) (word-none f 1 64 p) (word-none f 65 37 q)
+
+-- two tests that agree on every element
+module _ (f g : ℕ → Bool) (agree : (e : ℕ) → 1 ≤ e → e ≤ 101 → f e ≡ g e) where
+  pub same-losses : lossesOf f ≡ lossesOf g
+  unfolding lossesOf
+  same-losses =
+      ap₂ losses (same-word f g 1 64 (λ e h l. agree e h (omega arith))) (same-word f g 65 37 (λ e h l. agree e (omega arith) (omega arith)))
+
+  pub same-list : lostList f ≡ lostList g
+  same-list = same-elements f g 1 101 (λ e h l. agree e h (omega arith))
+
+-- a test that no element passes
+module _ (f : ℕ → Bool) (kept : (e : ℕ) → 1 ≤ e → e ≤ 101 → f e ≡ false) where
+  pub empty-set : lossesOf f ≡ noLosses
+  unfolding lossesOf
+  empty-set = same-losses f (λ e. false) kept ∙ ap₂ losses (no-word 1 64) (no-word 65 37)
+
+  pub empty-list : lostList f ≡ []
+  empty-list = same-list f (λ e. false) kept ∙ no-elements 1 101

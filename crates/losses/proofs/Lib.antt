@@ -1,0 +1,6 @@
+-- The laws that the functions of this crate and of those above it cite.
+pub mod Ways
+pub mod Words
+pub mod Listed
+pub mod LossLaws
+pub mod Demand3Losses

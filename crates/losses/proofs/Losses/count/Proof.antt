@@ -1,0 +1,22 @@
+-- `losses::Losses::count` meets its contract. Assumes nothing.
+use native.Mathlib.Omega.{arith}
+use lib.Count.{ones-le}
+use borrow.Author.Needs.{needs}
+use Rattle.losses.proofs.Losses.count.Statement.{statement}
+use Rattle.losses.proofs.Losses.count.Tie as tie
+
+add-result : tie.Need-add-result
+add-result c =
+    let s = c .before .before .args .self in
+    omega (arith, ones-le 64 (s .low) (search needs), ones-le 64 (s .high) (search needs))
+
+cast-result : tie.Need-cast-result
+cast-result c =
+    let s = c .before .before .args .self in
+    omega (arith, ones-le 64 (s .low) (search needs), ones-le 64 (s .high) (search needs))
+
+returns : tie.Need-returns
+returns c = search needs
+
+pub count-spec : {M : Type 1} → statement M
+count-spec = tie.close (tie.spec add-result cast-result returns)

@@ -27,6 +27,7 @@ fn is_same_latitude(a: bool, b: bool, latitude: u32) -> bool
     latitude == 0 || text::same(a, b)
 }
 
+// The same number, as wide as a longitude of a place is.
 fn wide(n: u32) -> u64
     ensures { λ r. ⌜ r ≡ n ⌝ }
 {
@@ -45,8 +46,8 @@ fn is_same_place(from: Edition, d: u32, to: Edition, c: u32, latitude: u32, long
         return false;
     }
     let tenths = wide(longitude);
-    reading::east_of(reading::is_west(from, d), tenths)
-        == reading::east_of(reading::is_west(to, c), tenths)
+    let east = reading::east_of(reading::is_west(from, d), tenths);
+    east == reading::east_of(reading::is_west(to, c), tenths)
 }
 
 // Does the digit keep tie 2?
@@ -94,6 +95,7 @@ fn digit_of(b: u8) -> u32
     (b - 48) as u32
 }
 
+// Is it edition 1?
 fn is_first(edition: Edition) -> bool
     ensures { λ r. ⌜ r ≡ isFirst edition ⌝ }
 {

@@ -41,7 +41,7 @@ pub fn letters_in(edition: Edition) -> [u8; 102]
 }
 
 // The texts that a letter stands for.
-fn texts_of(letter: u8) -> Texts
+pub fn texts_of(letter: u8) -> Texts
     ensures { λ r. ⌜ r ≡ lettered letter ⌝ }
 {
     match letter {
@@ -124,7 +124,7 @@ fn is_missing(e: usize, text: &[u8]) -> bool
 }
 
 // Is it that, or one of the texts that the letter stands for?
-pub fn is_legal(e: usize, letter: u8, text: &[u8]) -> bool
+fn is_legal(e: usize, letter: u8, text: &[u8]) -> bool
     requires { ⌜ length (now text) ≤ 7 ⌝ }
     ensures { λ r. ⌜ r ≡ ((mayBeBlank e && blank (now (text .entry))) || allows (lettered letter) (now (text .entry))) ⌝ }
 {

@@ -26,23 +26,24 @@ use Rattle.recasting.specs.declared.Sense.the-variants.{
   CountryLetters,
 }
 
--- column 70, codes 1 and 4: national, international logbook in 1, 3; paper, electronic in 4
-abbrev pub logbookIn : Edition → Sense → Sense → Sense
-logbookIn One earlier later = earlier
-logbookIn Three earlier later = earlier
-logbookIn Four earlier later = later
+-- a code that editions 1 and 3 take in one sense and edition 4 in another
+abbrev pub inEdition : Edition → Sense → Sense → Sense
+inEdition One earlier later = earlier
+inEdition Three earlier later = earlier
+inEdition Four earlier later = later
 
+-- column 70, codes 1 and 4: national, international logbook in 1, 3; paper, electronic in 4
 unfoldable pub sourceSense : Edition → ℕ → Sense
 sourceSense ed code =
-    cond (eqb code 1) (logbookIn ed NationalLogbook PaperLogbook)
-    (cond (eqb code 4) (logbookIn ed InternationalLogbook ElectronicLogbook)
+    cond (eqb code 1) (inEdition ed NationalLogbook PaperLogbook)
+    (cond (eqb code 4) (inEdition ed InternationalLogbook ElectronicLogbook)
     Alike)
 
 -- column 71, codes 4 and 9: automated station, others in 1, 3; VOSClim ship, others or data buoy in 4
 unfoldable pub platformSense : Edition → ℕ → Sense
 platformSense ed code =
-    cond (eqb code 4) (logbookIn ed AutomatedStation VosclimShip)
-    (cond (eqb code 9) (logbookIn ed Others OthersOrBuoy)
+    cond (eqb code 4) (inEdition ed AutomatedStation VosclimShip)
+    (cond (eqb code 9) (inEdition ed Others OthersOrBuoy)
     Alike)
 
 -- the country: numbers in 1 against letters in 3, 4
@@ -51,6 +52,10 @@ countrySense One = CountryNumber
 countrySense Three = CountryLetters
 countrySense Four = CountryLetters
 
+-- the elements whose codes editions take in different senses
+abbrev pub hasSenses : ℕ → Bool
+hasSenses e = eqb e 40 || (eqb e 41 || eqb e 43)
+
 -- the sense in which an edition takes the characters of element e: the same across editions save in elements 40, 41 and 43
 unfoldable pub senseOf : Edition → ℕ → List ℕ → Sense
 senseOf ed e t =
@@ -58,6 +63,23 @@ senseOf ed e t =
     (cond (eqb e 41) (platformSense ed (number t))
     (cond (eqb e 43) (countrySense ed)
     Alike))
+
+-- two senses are the same: each has a number of its own
+abbrev pub senseNumber : Sense → ℕ
+senseNumber Alike = 0
+senseNumber NationalLogbook = 1
+senseNumber InternationalLogbook = 2
+senseNumber PaperLogbook = 3
+senseNumber ElectronicLogbook = 4
+senseNumber AutomatedStation = 5
+senseNumber Others = 6
+senseNumber VosclimShip = 7
+senseNumber OthersOrBuoy = 8
+senseNumber CountryNumber = 9
+senseNumber CountryLetters = 10
+
+abbrev pub sameSense : Sense → Sense → Bool
+sameSense a b = eqb (senseNumber a) (senseNumber b)
 
 -- a place means its two numbers, whatever digit gives them
 abbrev pub withoutDigit : Reading → Reading

@@ -16,7 +16,7 @@ use Rattle.layout.specs.declared.Named.the-variants.{Known, Unknown}
 use Rattle.layout.specs.declared.Refusal.the-variants.{Unheld, Room, NoDigit}
 use Rattle.layout.specs.Editions.{asked, lengthOf}
 use Rattle.layout.specs.Page.{widthOf, textOf, textsOf}
-use Rattle.layout.specs.Records.{recordFrom}
+use Rattle.layout.specs.Records.{rowFrom, recordFrom}
 use Rattle.layout.specs.Refusals.{numberOf, placeOf}
 use Rattle.ties.specs.Ties.{there}
 use Rattle.checking.specs.declared.Answer.{Answer}
@@ -32,8 +32,11 @@ unfoldable pub keeps : Edition → Edition → ℕ → List ℕ → Bool
 keeps from to e t = eqb e 6 || (eqb e 65 || (allows (textsOf to e) t && sameSense (senseOf from e t) (senseOf to e t)))
 
 -- only a filled element can be lost
-unfoldable pub lostAt : Edition → Edition → List ℕ → ℕ → Bool
-lostAt from to xs e = there (textOf e xs) && not (keeps from to e (textOf e xs))
+unfoldable pub lostText : Edition → Edition → ℕ → List ℕ → Bool
+lostText from to e t = there t && not (keeps from to e t)
+
+abbrev pub lostAt : Edition → Edition → List ℕ → ℕ → Bool
+lostAt from to xs e = lostText from to e (textOf e xs)
 
 -- column 12 in the target: between edition 1 and the others the lowest digit with the same place that also keeps tie 2, else it stays; a blank place stays blank
 unfoldable pub hemisphere : Edition → Edition → List ℕ → ℕ
@@ -64,6 +67,16 @@ recastText from to xs e =
 
 unfoldable pub recastRecord : Edition → Edition → List ℕ → List ℕ
 recastRecord from to xs = recordFrom to (recastText from to xs)
+
+-- on the way there: the columns of all 101 elements, and those in which the elements lost are blank and nothing else has changed
+unfoldable pub recastRow : Edition → Edition → List ℕ → List ℕ
+recastRow from to xs = rowFrom (recastText from to xs) 1 101
+
+unfoldable pub blankedText : Edition → Edition → List ℕ → ℕ → List ℕ
+blankedText from to xs e = cond (lostAt from to xs e) (blanks (widthOf e)) (textOf e xs)
+
+unfoldable pub blankedRow : Edition → Edition → List ℕ → ℕ → ℕ → List ℕ
+blankedRow from to xs e n = rowFrom (blankedText from to xs) e n
 
 -- 10: no digit; 9: room
 unfoldable pub recastIn : Edition → Edition → List ℕ → ℕ → Outcome

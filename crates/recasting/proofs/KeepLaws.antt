@@ -1,0 +1,98 @@
+-- What each way through the tests of one element says: in which sense its text is taken, whether it is kept, whether it is lost. Assumes nothing.
+use mathlib.Core.Path.{_≡_, refl, sym, ap, _∙_}
+use mathlib.Core.Bool.{Bool, true, false, cond, not, _&&_, _||_, true≢false}
+use mathlib.Core.List.{List}
+use Prim.Native.Nat.{ℕ}
+use borrow.Author.Tests.{eq-eqb, ne-eqb, eqb-true}
+use lib.Dec.{eqb}
+use Rattle.text.specs.Bytes.{blank, number}
+use Rattle.text.specs.Texts.{allows}
+use Rattle.text.specs.declared.Texts.{Texts}
+use Rattle.text.proofs.Among.{neither-first, neither-second}
+use Rattle.layout.specs.declared.Edition.{Edition}
+use Rattle.layout.specs.Letters.{lettered}
+use Rattle.layout.specs.Page.{textsOf, mayBeBlank, legalText}
+use Rattle.ties.specs.Ties.{there}
+use Rattle.recasting.specs.declared.Sense.{Sense}
+use Rattle.recasting.specs.declared.Sense.the-variants.{Alike}
+use Rattle.recasting.specs.Meaning.{sourceSense, platformSense, countrySense, hasSenses, senseOf, senseNumber, sameSense}
+use Rattle.recasting.specs.Recast.{keeps, lostText}
+
+-- the sense of a text, by its element
+module _ (ed : Edition) (e : ℕ) (t : List ℕ) where
+  pub at-source : (s : Sense) (n : ℕ) → n ≡ number t → s ≡ sourceSense ed n → e ≡ 40 → s ≡ senseOf ed e t
+  unfolding senseOf
+  at-source s n f g h = g ∙ rw (eq-eqb e 40 h, f)
+
+  pub at-platform : (s : Sense) (n : ℕ) → n ≡ number t → s ≡ platformSense ed n → e ≡ 41 → s ≡ senseOf ed e t
+  unfolding senseOf
+  at-platform s n f g h = g ∙ rw (h, f)
+
+  pub at-country : (s : Sense) → s ≡ countrySense ed → e ≡ 43 → s ≡ senseOf ed e t
+  unfolding senseOf
+  at-country s g h = g ∙ rw h
+
+  pub at-others : eqb e 40 ≡ false → eqb e 41 ≡ false → eqb e 43 ≡ false → Alike ≡ senseOf ed e t
+  unfolding senseOf
+  at-others f g h = rw (f, g, h)
+
+-- where an element has one sense only, every edition takes it alike
+module _ (e : ℕ) (none : hasSenses e ≡ false) where
+  pub one-sense : (ed : Edition) (t : List ℕ) → Alike ≡ senseOf ed e t
+  one-sense ed t =
+      let rest = neither-second (eqb e 40) _ none in
+      at-others ed e t (neither-first _ _ none) (neither-first _ _ rest) (neither-second (eqb e 41) _ rest)
+
+  pub always-same : (from to : Edition) (t : List ℕ) → sameSense (senseOf from e t) (senseOf to e t) ≡ true
+  always-same from to t = rw (← one-sense from t, ← one-sense to t)
+
+pub numbers-agree : (a b : Sense) (s t : Sense) (m n : ℕ) → s ≡ a → t ≡ b → m ≡ senseNumber s → n ≡ senseNumber t → eqb m n ≡ sameSense a b
+numbers-agree a b s t m n f g h k = rw (h, k, f, g)
+
+-- whether a text is kept
+module _ (from to : Edition) (e : ℕ) (t : List ℕ) where
+  pub kept-six : e ≡ 6 → true ≡ keeps from to e t
+  unfolding keeps
+  kept-six h = rw h
+
+  pub kept-version : e ≡ 65 → true ≡ keeps from to e t
+  unfolding keeps
+  kept-version h = rw h
+
+  module _ (a : e ≡ 6 → ⊥) (b : e ≡ 65 → ⊥) (letter : ℕ) (texts : Texts) (is : texts ≡ lettered letter) (row : lettered letter ≡ textsOf to e) (x : Bool) (f : x ≡ allows texts t) where
+    allowed : allows (textsOf to e) t ≡ x
+    allowed = ap (λ (s : Texts). allows s t) (sym row ∙ sym is) ∙ sym f
+
+    pub not-allowed : x ≡ false → x ≡ keeps from to e t
+    unfolding keeps
+    not-allowed h = rw (ne-eqb e 6 a, ne-eqb e 65 b, allowed, h)
+
+    pub in-sense : x ≡ true → (y : Bool) → y ≡ sameSense (senseOf from e t) (senseOf to e t) → y ≡ keeps from to e t
+    unfolding keeps
+    in-sense h y g = rw (ne-eqb e 6 a, ne-eqb e 65 b, allowed, h) g
+
+  -- the same texts and one sense: what is legal in one edition is kept in the other
+  pub not-lost : (was becomes : ℕ) → lettered was ≡ textsOf from e → lettered becomes ≡ textsOf to e → was ≡ becomes → hasSenses e ≡ false → legalText from e t ≡ true → false ≡ lostText from to e t
+  unfolding lostText keeps
+  not-lost was becomes f g h none legal = by (blank t) (mayBeBlank e) refl legal
+    where
+      same-texts : textsOf from e ≡ textsOf to e
+      same-texts = sym f ∙ ap lettered h ∙ g
+
+      kept-here : allows (textsOf from e) t ≡ true → (x y : Bool) → false ≡ not (x || (y || (allows (textsOf to e) t && sameSense (senseOf from e t) (senseOf to e t))))
+      kept-here l true y = refl
+      kept-here l false true = refl
+      kept-here l false false = rw (← same-texts, l, always-same e none from to t)
+
+      by : (b m : Bool) → blank t ≡ b → ((m && b) || allows (textsOf from e) t) ≡ true → false ≡ (not b && not (keeps from to e t))
+      by true m q l = refl
+      by false true q l = kept-here l (eqb e 6) (eqb e 65)
+      by false false q l = kept-here l (eqb e 6) (eqb e 65)
+
+  pub blank-kept : (b : Bool) → b ≡ blank t → b ≡ true → false ≡ lostText from to e t
+  unfolding lostText
+  blank-kept b f h = rw (← f, h)
+
+  pub filled-lost : (b k : Bool) → b ≡ blank t → b ≡ false → k ≡ keeps from to e t → not k ≡ lostText from to e t
+  unfolding lostText
+  filled-lost b k f h g = rw (← f, h) (ap not g)

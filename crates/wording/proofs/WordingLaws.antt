@@ -1,0 +1,182 @@
+-- Texts that are placed one after the other, and how long a number is in decimal digits. Assumes nothing.
+use mathlib.Core.Path.{_≡_, refl, sym, ap, _∙_}
+use mathlib.Core.Bool.{Bool, true, false}
+use mathlib.Core.List.{List, [], _∷_, _++_, append-assoc, append-nil}
+use Prim.Native.Nat.{ℕ, zero, suc, _+_, _-_, _/_, _%_, _^_, _<_, _≤_}
+use native.Mathlib.Nat.{add-zero, zero-add, div-lt-iff-lt-mul, mod-eq-of-lt, pow-suc}
+use native.Mathlib.Numerals.{add-one}
+use native.Mathlib.Omega.{arith}
+use borrow.Author.Tests.{ltb-true, ltb-false, lt-ltb, le-ltb}
+use lib.Dec.{ltb, lit<}
+use lib.ListN.{length, getD, take, drop, set, length-append, length-drop, take-append-drop, drop-of-length-le}
+use lib.Seq.{take-suc-set, drop-set-lt, drop-cons, length-take-le, take-append-seam, take-at, drop-at, drop-drop}
+use Rattle.numerals.specs.Spelling.{spelled, placed}
+use Rattle.wording.specs.Wording.{decimalFrom, decimal}
+
+-- nothing placed changes nothing
+pub placed-none : (at : ℕ) (before : List ℕ) → placed at [] before ≡ before
+placed-none at before = rw (append-nil, add-zero) (take-append-drop at before)
+
+-- a text placed within the bytes leaves as many as there were
+pub placed-length : (at : ℕ) (t before : List ℕ) → at + length t ≤ length before → length (placed at t before) ≡ length before
+placed-length at t before h =
+    let rest : List ℕ = drop (at + length t) before in
+    omega (arith, length-append (take at before ++ t) rest, length-append (take at before) t, length-take-le at before (omega arith), length-drop (at + length t) before)
+
+-- what was placed at the front stands there
+pub placed-front : (t before : List ℕ) → take (length t) (placed 0 t before) ≡ t
+placed-front t before = take-append-seam t (drop (0 + length t) before)
+
+-- two texts, the second right after the first, are one text
+pub placed-twice : (at : ℕ) (t u before : List ℕ) → at + length t + length u ≤ length before →
+    placed (at + length t) u (placed at t before) ≡ placed at (t ++ u) before
+placed-twice at t u before h =
+    let rest : List ℕ = drop (at + length t) before in
+    let head : List ℕ = take at before ++ t in
+    let long : length head ≡ at + length t = length-append (take at before) t ∙ ap (λ (k : ℕ). k + length t) (length-take-le at before (omega arith)) in
+    let front : take (at + length t) (placed at t before) ≡ head = take-at head rest (at + length t) long in
+    let both : at + length t + length u ≡ at + length (t ++ u) = omega (arith, length-append t u) in
+    let back : drop (at + length t + length u) (placed at t before) ≡ drop (at + length (t ++ u)) before =
+    sym (drop-drop (length u) (at + length t) (placed at t before)) ∙
+    ap (drop (length u)) (drop-at head rest (at + length t) long) ∙
+    drop-drop (length u) (at + length t) before ∙
+    ap (λ (k : ℕ). drop k before) both in
+    rw (front, back) (simp append-assoc)
+
+-- the same as two calls say it: the second goes on from the place and the bytes that the first left
+pub placed-next : (at next : ℕ) (t u before mid after : List ℕ) → at + length t + length u ≤ length before →
+    (mid ≡ placed at t before) × (next ≡ at + length t) → after ≡ placed next u mid → after ≡ placed at (t ++ u) before
+placed-next at next t u before mid after h first second = second ∙ rw (first .0, first .1) (placed-twice at t u before h)
+
+-- one byte stored, and the others placed after it
+place-first : (at b : ℕ) (s before : List ℕ) → at < length before → placed (suc at) s (set before at b) ≡ placed at (b ∷ s) before
+place-first at b s before h =
+    let longer : at + length (b ∷ s) ≡ suc at + length s = omega arith in
+    rw (longer, take-suc-set before at b h, drop-set-lt (suc at + length s) before at b (omega arith)) (simp append-assoc)
+
+-- the start of the loop that puts a text, a turn of it, and its end
+pub text-starts : (at : ℕ) (text out : List ℕ) → placed (at + 0) (drop 0 text) out ≡ placed at text out
+text-starts at text out = rw (add-zero at)
+
+module _ (at : ℕ) (text : List ℕ) (i : ℕ) (out : List ℕ) where
+  pub text-turn : i < length text → at + i < length out →
+      placed (at + (i + 1)) (drop (i + 1) text) (set out (at + i) (getD text i 0)) ≡ placed (at + i) (drop i text) out
+  text-turn h l =
+      let next : at + (i + 1) ≡ suc (at + i) = omega arith in
+      rw (next, add-one i, drop-cons text i 0 h) (place-first (at + i) (getD text i 0) (drop (suc i) text) out l)
+
+  pub text-end : length text ≤ i → out ≡ placed (at + i) (drop i text) out
+  text-end h = rw (drop-of-length-le text h) (sym (placed-none (at + i) out))
+
+-- a number of one digit, and one of more
+module _ (k n : ℕ) where
+  pub one-digit : n < 10 → decimalFrom (suc k) n ≡ (48 + n) ∷ []
+  unfolding decimalFrom
+  one-digit h = rw (lt-ltb n 10 h)
+
+  pub more-digits : 10 ≤ n → decimalFrom (suc k) n ≡ decimalFrom k (n / 10) ++ (48 + n % 10) ∷ []
+  unfolding decimalFrom
+  more-digits h = rw (le-ltb n 10 h)
+
+  pub one-long : n < 10 → length (decimalFrom (suc k) n) ≡ 1
+  one-long h = ap length (one-digit h)
+
+  pub more-long : 10 ≤ n → length (decimalFrom (suc k) n) ≡ suc (length (decimalFrom k (n / 10)))
+  more-long h = ap length (more-digits h) ∙ length-append (decimalFrom k (n / 10)) _ ∙ add-one _
+
+-- every number has a digit, and none has more than were asked for
+pub decimal-some : (n : ℕ) → 1 ≤ length (decimal n)
+unfolding decimal
+decimal-some n = by (ltb n 10) refl
+  where
+    by : (x : Bool) → ltb n 10 ≡ x → 1 ≤ length (decimalFrom 20 n)
+    by true e = omega (arith, one-long 19 n (ltb-true n 10 e))
+    by false e = omega (arith, more-long 19 n (ltb-false n 10 e))
+
+short-from : (k n : ℕ) → length (decimalFrom k n) ≤ k
+unfolding decimalFrom
+short-from zero n = omega arith
+short-from (suc k) n = by (ltb n 10) refl (short-from k (n / 10))
+  where
+    by : (x : Bool) → ltb n 10 ≡ x → length (decimalFrom k (n / 10)) ≤ k → length (decimalFrom (suc k) n) ≤ suc k
+    by true e h = omega (arith, one-long k n (ltb-true n 10 e))
+    by false e h = omega (arith, more-long k n (ltb-false n 10 e))
+
+pub decimal-short : (n : ℕ) → length (decimal n) ≤ 20
+unfolding decimal
+decimal-short n = short-from 20 n
+
+-- one digit less is left of a number that is divided by ten
+pub tenth : (w n : ℕ) → n < 10 ^ suc w → n / 10 < 10 ^ w
+tenth w n h = div-lt-iff-lt-mul {x = n} {y = 10 ^ w} (lit< tt) .1 (rw (pow-suc 10 w) at h)
+
+-- a number below a power of ten has no more digits than the power says
+pub decimal-below : (k w n : ℕ) → n < 10 ^ suc w → length (decimalFrom k n) ≤ suc w
+unfolding decimalFrom
+decimal-below zero w n h = omega arith
+decimal-below (suc k) zero n h = omega (arith, one-long k n (omega arith))
+decimal-below (suc k) (suc w) n h = by (ltb n 10) refl (decimal-below k w (n / 10) (tenth (suc w) n h))
+  where
+    by : (x : Bool) → ltb n 10 ≡ x → length (decimalFrom k (n / 10)) ≤ suc w → length (decimalFrom (suc k) n) ≤ suc (suc w)
+    by true e l = omega (arith, one-long k n (ltb-true n 10 e))
+    by false e l = omega (arith, more-long k n (ltb-false n 10 e))
+
+pub small-number : (n : ℕ) → n < 1000 → length (decimal n) ≤ 3
+unfolding decimal
+small-number n h = decimal-below 20 2 n h
+
+-- the digits of a number are its last digits, as many as it has
+spelled-from : (k n : ℕ) → decimalFrom k n ≡ spelled 10 48 (length (decimalFrom k n)) n
+unfolding decimalFrom spelled
+spelled-from zero n = refl
+spelled-from (suc k) n = by (ltb n 10) refl (spelled-from k (n / 10))
+  where
+    by : (x : Bool) → ltb n 10 ≡ x → decimalFrom k (n / 10) ≡ spelled 10 48 (length (decimalFrom k (n / 10))) (n / 10) →
+        decimalFrom (suc k) n ≡ spelled 10 48 (length (decimalFrom (suc k) n)) n
+    by true e h = let l = ltb-true n 10 e in rw (one-long k n l, one-digit k n l, mod-eq-of-lt l)
+    by false e h =
+        let l = ltb-false n 10 e in
+        rw (more-long k n l, more-digits k n l) (ap (λ (s : List ℕ). s ++ (48 + n % 10) ∷ []) h)
+
+pub decimal-spelled : (n : ℕ) → decimal n ≡ spelled 10 48 (length (decimal n)) n
+unfolding decimal
+decimal-spelled n = spelled-from 20 n
+
+-- where as many digits are spelled as a number has, the number is placed
+pub number-placed : (at width n : ℕ) (before : List ℕ) → width ≡ length (decimal n) → placed at (spelled 10 48 width n) before ≡ placed at (decimal n) before
+number-placed at width n before e = ap (λ (t : List ℕ). placed at t before) (ap (λ (w : ℕ). spelled 10 48 w n) e ∙ sym (decimal-spelled n))
+
+-- the loop that counts digits: every u64 has at most twenty, each turn counts one of those that `left` has
+pub count-starts : (n : ℕ) → n < 2 ^ 64 → (n < 10 ^ (20 - 0)) × (0 + length (decimalFrom (20 - 0) n) ≡ length (decimal n))
+unfolding decimal
+count-starts n h = (omega arith, zero-add _)
+
+module _ (k left : ℕ) (room : k < 20) (below : left < 10 ^ (20 - k)) where
+  pub count-turn : 10 ≤ left →
+      (k + 1 < 20) × ((left / 10 < 10 ^ (20 - (k + 1))) × (k + 1 + length (decimalFrom (20 - (k + 1)) (left / 10)) ≡ k + length (decimalFrom (20 - k) left)))
+  count-turn h =
+      let fuel : 20 - k ≡ suc (20 - (k + 1)) = omega arith in
+      let less : left / 10 < 10 ^ (20 - (k + 1)) = tenth (20 - (k + 1)) left (rw fuel at below) in
+      (more (20 - (k + 1)) refl, (less, rw fuel (omega (arith, more-long (20 - (k + 1)) left h))))
+    where
+      more : (f : ℕ) → 20 - (k + 1) ≡ f → k + 1 < 20
+      more zero e = let one : 20 - k ≡ 1 = omega arith in absurd (omega (arith, rw one at below))
+      more (suc f) e = omega arith
+
+  pub count-end : left < 10 → k + 1 ≡ k + length (decimalFrom (20 - k) left)
+  count-end h =
+      let fuel : 20 - k ≡ suc (20 - (k + 1)) = omega arith in
+      rw fuel (omega (arith, one-long (20 - (k + 1)) left h))
+
+-- worked cases: the least, one with a zero inside, the largest u64
+decimal-of-0 : decimal 0 ≡ 48 ∷ []
+unfolding decimal decimalFrom
+decimal-of-0 = refl
+
+decimal-of-101 : decimal 101 ≡ 49 ∷ 48 ∷ 49 ∷ []
+unfolding decimal decimalFrom
+decimal-of-101 = refl
+
+decimal-of-most : decimal 18446744073709551615 ≡ 49 ∷ 56 ∷ 52 ∷ 52 ∷ 54 ∷ 55 ∷ 52 ∷ 52 ∷ 48 ∷ 55 ∷ 51 ∷ 55 ∷ 48 ∷ 57 ∷ 53 ∷ 53 ∷ 49 ∷ 54 ∷ 49 ∷ 53 ∷ []
+unfolding decimal decimalFrom
+decimal-of-most = refl

@@ -1,0 +1,60 @@
+// Texts and decimal numbers put into a lent buffer, for reports.
+//
+// Each function answers the place right after what it put, so that a report is put together by handing
+// each answer to the next call.
+ghost use mathlib.Core.Path.{_≡_};
+ghost use Prim.Native.Nat.{_+_, _≤_};
+ghost use lib.ListN.{length};
+ghost use Rattle.numerals.specs.Spelling.{spelled, placed};
+ghost use Rattle.wording.specs.Wording.{decimal};
+
+// Puts a text into the buffer from `at` on, and answers the place after it.
+pub fn put_text(out: &mut [u8], at: usize, text: &[u8]) -> usize
+    requires { ⌜ at + length (now text) ≤ length (now out) ⌝ }
+    ensures { λ r. ⌜ (now (out .exit) ≡ placed at (now (text .entry)) (now (out .entry))) × (r ≡ at + length (now (text .entry))) ⌝ }
+{
+    let mut i = 0;
+    while i < text.len() {
+        out[at + i] = text[i];
+        i += 1;
+    }
+    at + i
+}
+
+// How many decimal digits a number has.
+fn places(n: u64) -> usize
+    ensures { λ r. ⌜ r ≡ length (decimal n) ⌝ }
+{
+    let mut left = n;
+    let mut k = 0;
+    while 10 <= left {
+        left = left / 10;
+        k += 1;
+    }
+    k + 1
+}
+
+// Spells the last `width` digits of a number from `at` on, the last first. The base is a constant here,
+// so that no division by a variable is left.
+fn spell(out: &mut [u8], at: usize, width: usize, n: u64)
+    requires { ⌜ at + width ≤ length (now out) ⌝ }
+    ensures { λ _. ⌜ now (out .exit) ≡ placed at (spelled 10 48 width n) (now (out .entry)) ⌝ }
+{
+    let mut left = n;
+    let mut k = width;
+    while 0 < k {
+        k -= 1;
+        out[at + k] = (48 + left % 10) as u8;
+        left = left / 10;
+    }
+}
+
+// Puts a number into the buffer from `at` on, and answers the place after its last digit.
+pub fn put_number(out: &mut [u8], at: usize, n: u64) -> usize
+    requires { ⌜ at + 20 ≤ length (now out) ⌝ }
+    ensures { λ r. ⌜ (now (out .exit) ≡ placed at (decimal n) (now (out .entry))) × (r ≡ at + length (decimal n)) ⌝ }
+{
+    let width = places(n);
+    spell(out, at, width, n);
+    at + width
+}

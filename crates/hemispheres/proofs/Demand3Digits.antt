@@ -1,5 +1,4 @@
--- Demand 3, column 12: every edition has a digit for each place that an accepted record holds, poles, equator and both forms of the date line with them. The one taken
--- is the lowest that may stand there, gives the same signed latitude and the same east longitude, and keeps tie 2. Assumes nothing.
+-- Demand 3, column 12: every edition has a digit for every place, poles, equator and both forms of the date line with them. The one taken is the lowest that may stand there, gives the same signed latitude and the same east longitude, and keeps tie 2. Assumes nothing.
 use mathlib.Core.Path.{_≡_, refl, sym, ap, _∙_}
 use mathlib.Core.Bool.{Bool, true, false, true≢false}
 use mathlib.Core.List.{[], _∷_}
@@ -76,9 +75,9 @@ module _ (from to : Edition) (d latitude longitude : ℕ) where
         lowest = λ k l. sym (ap (suits from to d latitude longitude) (add-sub-cancel-left 48 k)) ∙ not-true _ (f (48 + k) (omega arith) (omega arith));
       }
 
-  pub digit-found : d ≤ 9 → mayStand from d ≡ true → longitude ≤ 1800 → keepsTie from d longitude ≡ true → Found from to d latitude longitude
+  pub digit-found : Found from to d latitude longitude
   unfolding lowestDigit
-  digit-found h m l k =
+  digit-found =
       let g = gives longitude to (south from d) (west from d) in
       taken (g .digit) (g .small) (suited g) _ refl (looked (unsuited from to d latitude longitude) 48 10)
 

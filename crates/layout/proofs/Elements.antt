@@ -9,13 +9,14 @@ use lib.Dec.{lit≤}
 use lib.ListN.{length, getD, take, drop, length-take}
 use Rattle.text.specs.Bytes.{blank}
 use Rattle.text.specs.Texts.{allows}
+use Rattle.text.specs.declared.Texts.{Texts}
 use Rattle.text.specs.First.{firstOf, firstFrom}
 use Rattle.text.proofs.First.{same-first}
 use Rattle.layout.specs.declared.Edition.{Edition}
 use Rattle.layout.specs.declared.Edition.the-variants.{One, Three, Four}
 use Rattle.layout.specs.Editions.{lengthOf, lastOf}
 use Rattle.layout.specs.Letters.{lettered, WidthRow, LetterRow}
-use Rattle.layout.specs.Page.{widthOf, startOf, textOf, mayBeBlank, legal}
+use Rattle.layout.specs.Page.{element, widthOf, startOf, textOf, textsOf, mayBeBlank, legal}
 use Rattle.layout.proofs.Columns.{start-next, start-rises, narrow, filled}
 use Rattle.layout.proofs.Rows.{width-at, texts-at}
 
@@ -62,3 +63,9 @@ same-place ed ls xs l last n = same-first (byLetters ls xs) (legal ed xs) (λ e.
 pub legal-of : (ed : Edition) (xs ls : List ℕ) (e : ℕ) → LetterRow ed ls → (t : List ℕ) → t ≡ textOf e xs → (r : Bool) → r ≡ ((mayBeBlank e && blank t) || allows (lettered (getD ls e 0)) t) → r ≡ legal ed xs e
 unfolding legal
 legal-of ed xs ls e l t f r g = g ∙ rw (texts-at ed ls l e, f)
+
+-- the texts of an element that are the same in all editions
+pub in-each : (ed : Edition) (e : ℕ) (s : Texts) → element e .in1 ≡ s → element e .in3 ≡ s → element e .in4 ≡ s → textsOf ed e ≡ s
+in-each One e s p q r = p
+in-each Three e s p q r = q
+in-each Four e s p q r = r

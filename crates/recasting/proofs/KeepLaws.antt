@@ -72,22 +72,22 @@ module _ (from to : Edition) (e : ℕ) (t : List ℕ) where
     in-sense h y g = rw (ne-eqb e 6 a, ne-eqb e 65 b, allowed, h) g
 
   -- the same texts and one sense: what is legal in one edition is kept in the other
-  pub not-lost : (was becomes : ℕ) → lettered was ≡ textsOf from e → lettered becomes ≡ textsOf to e → was ≡ becomes → hasSenses e ≡ false → legalText from e t ≡ true → false ≡ lostText from to e t
+  pub alike-kept : textsOf from e ≡ textsOf to e → hasSenses e ≡ false → legalText from e t ≡ true → lostText from to e t ≡ false
   unfolding lostText keeps
-  not-lost was becomes f g h none legal = by (blank t) (mayBeBlank e) refl legal
+  alike-kept same-texts none legal = by (blank t) (mayBeBlank e) refl legal
     where
-      same-texts : textsOf from e ≡ textsOf to e
-      same-texts = sym f ∙ ap lettered h ∙ g
-
-      kept-here : allows (textsOf from e) t ≡ true → (x y : Bool) → false ≡ not (x || (y || (allows (textsOf to e) t && sameSense (senseOf from e t) (senseOf to e t))))
+      kept-here : allows (textsOf from e) t ≡ true → (x y : Bool) → not (x || (y || (allows (textsOf to e) t && sameSense (senseOf from e t) (senseOf to e t)))) ≡ false
       kept-here l true y = refl
       kept-here l false true = refl
       kept-here l false false = rw (← same-texts, l, always-same e none from to t)
 
-      by : (b m : Bool) → blank t ≡ b → ((m && b) || allows (textsOf from e) t) ≡ true → false ≡ (not b && not (keeps from to e t))
+      by : (b m : Bool) → blank t ≡ b → ((m && b) || allows (textsOf from e) t) ≡ true → (not b && not (keeps from to e t)) ≡ false
       by true m q l = refl
       by false true q l = kept-here l (eqb e 6) (eqb e 65)
       by false false q l = kept-here l (eqb e 6) (eqb e 65)
+
+  pub not-lost : (was becomes : ℕ) → lettered was ≡ textsOf from e → lettered becomes ≡ textsOf to e → was ≡ becomes → hasSenses e ≡ false → legalText from e t ≡ true → false ≡ lostText from to e t
+  not-lost was becomes f g h none legal = sym (alike-kept (sym f ∙ ap lettered h ∙ g) none legal)
 
   pub blank-kept : (b : Bool) → b ≡ blank t → b ≡ true → false ≡ lostText from to e t
   unfolding lostText

@@ -5,3 +5,11 @@ pub mod PlaceLaws
 pub mod WidenLaws
 pub mod MakeLaws
 pub mod RecastLaws
+pub mod ResultLaws
+pub mod ColumnLaws
+pub mod EndLaws
+pub mod NeverLaws
+pub mod TiedLaws
+pub mod SenseLaws
+pub mod Demand3Accepted
+pub mod Demand3Meaning

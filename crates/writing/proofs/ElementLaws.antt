@@ -25,6 +25,7 @@ use Rattle.checking.specs.Acceptable.{Acceptable}
 use Rattle.reading.specs.declared.Reading.{Reading}
 use Rattle.reading.specs.Readings.{temperature, lead, itemOf, readingOf}
 use Rattle.writing.specs.Spelled.{numeralFor}
+use Rattle.layout.proofs.Elements.{in-each}
 use Rattle.layout.proofs.RecordLaws.{text-long}
 use Rattle.checking.proofs.PrintLaws.{legal-prints}
 use Rattle.writing.proofs.BackLaws.{Holds, empty, holds, greatest, plain-back, sign-back, value-back, departure-back, digit-back, latitude-back, longitude-back}
@@ -51,12 +52,6 @@ in-digits p ed xs e f h = by (mayBeBlank e) (blank (textOf e xs)) refl h
     by x true b g = empty b
     by true false b g = allowed b g
     by false false b g = allowed b g
-
--- the texts of an element that are the same in all editions
-pub in-each : (ed : Edition) (e : ℕ) (s : Texts) → element e .in1 ≡ s → element e .in3 ≡ s → element e .in4 ≡ s → textsOf ed e ≡ s
-in-each One e s p q r = p
-in-each Three e s p q r = q
-in-each Four e s p q r = r
 
 -- the elements with a sign, a temperature, a place and the departure of a record in which they are legal
 module _ (ed : Edition) (xs : List ℕ) where

@@ -26,10 +26,11 @@ use Rattle.writing.specs.Written.{writes}
 use Rattle.writing.specs.Givable.{Givable}
 use Rattle.writing.proofs.SameLaws.{same-self}
 use Rattle.writing.proofs.RecordLaws.{record-long, record-text}
+use Rattle.layout.proofs.Elements.{in-each}
 use Rattle.layout.proofs.RecordLaws.{text-long}
 use Rattle.checking.proofs.PrintLaws.{legal-prints}
 use Rattle.writing.proofs.BackLaws.{Holds, empty, holds, greatest, plain-back, departure-back}
-use Rattle.writing.proofs.ElementLaws.{lead-of-lead, in-digits, in-each, few-signs, signs, within, hemispheres, of-hemispheres, departures}
+use Rattle.writing.proofs.ElementLaws.{lead-of-lead, in-digits, few-signs, signs, within, hemispheres, of-hemispheres, departures}
 use Rattle.writing.proofs.GivenLaws.{pair-kept, place-kept}
 
 -- no sign of the air or the sea is 6

@@ -1,0 +1,97 @@
+-- Column 12 of the recast record: it stays, or it is the lowest digit with the same place that keeps tie 2. Assumes nothing.
+use mathlib.Core.Path.{_≡_, refl, sym, ap, _∙_}
+use mathlib.Core.Logic.{_⊎_, inl, inr}
+use mathlib.Core.Bool.{Bool, true, false, cond, not, _&&_, Bool·beq, true≢false}
+use mathlib.Core.List.{List, [], _∷_}
+use Prim.Native.Nat.{ℕ, _+_, _-_, _≤_}
+use native.Mathlib.Omega.{arith}
+use borrow.Author.Tests.{le-leb, lt-leb}
+use lib.ListN.{length, getD}
+use Rattle.text.specs.Bytes.{every, between, blank, number, valueFrom}
+use Rattle.text.specs.Texts.{allows}
+use Rattle.layout.specs.declared.Edition.{Edition}
+use Rattle.layout.specs.declared.Edition.the-variants.{One, Three, Four}
+use Rattle.layout.specs.Editions.{lengthOf, lastOf}
+use Rattle.layout.specs.Page.{page, element, textOf, textsOf}
+use Rattle.layout.proofs.Beyond.{last-above}
+use Rattle.layout.proofs.RecordLaws.{shortest}
+use Rattle.ties.specs.Ties.{there, octantTie, octantFits}
+use Rattle.checking.specs.Acceptable.{Acceptable}
+use Rattle.hemispheres.specs.Digits.{keepsTie, mayStand, lowestDigit, isFirst, crosses}
+use Rattle.hemispheres.proofs.Demand3Digits.{Found, digit-found}
+use Rattle.recasting.specs.Recast.{hemisphere, recastText, recastRecord}
+use Rattle.recasting.proofs.PlaceLaws.{six, one-column}
+use Rattle.recasting.proofs.ResultLaws.{result, result-text}
+
+-- a digit as a character is no blank, and says its number
+pub digit-there : (d : ℕ) → blank ((48 + d) ∷ []) ≡ false
+unfolding every
+digit-there d = rw (le-leb 32 (48 + d) (omega arith), lt-leb (48 + d) 32 (omega arith))
+
+pub digit-number : (d : ℕ) → number ((48 + d) ∷ []) ≡ d
+unfolding valueFrom
+digit-number d = omega arith
+
+-- editions between which column 12 stays have the same texts there
+pub same-digits : (from to : Edition) → crosses from to ≡ false → textsOf from 6 ≡ textsOf to 6
+unfolding element page
+same-digits One One h = refl
+same-digits One Three h = absurd (true≢false h)
+same-digits One Four h = absurd (true≢false h)
+same-digits Three One h = absurd (true≢false h)
+same-digits Three Three h = refl
+same-digits Three Four h = refl
+same-digits Four One h = absurd (true≢false h)
+same-digits Four Three h = refl
+same-digits Four Four h = refl
+
+module _ (from to : Edition) (xs : List ℕ) (a : Acceptable from xs) where
+  abbrev pub place : Type 0
+  place = Found from to (number (textOf 6 xs)) (number (textOf 7 xs)) (number (textOf 8 xs))
+
+  -- what has become of column 12
+  pub data Column : Type 0 where
+    stays : (crosses from to ≡ false) ⊎ (blank (textOf 6 xs) ≡ true) → textOf 6 (result from to xs a) ≡ textOf 6 xs → Column
+    moves : blank (textOf 6 xs) ≡ false → (f : place) → textOf 6 (result from to xs a) ≡ (48 + f .digit) ∷ [] → Column
+
+  six-text : textOf 6 (result from to xs a) ≡ hemisphere from to xs ∷ []
+  unfolding recastText
+  six-text = result-text from to xs a 6 (omega arith) (omega (arith, last-above to))
+
+  -- the column that stands there
+  own-six : getD (textOf 6 xs) 0 32 ∷ [] ≡ textOf 6 xs
+  own-six =
+      let one : textOf 6 xs ≡ getD xs 11 0 ∷ [] = six xs ∙ one-column xs 11 (omega (arith, a .full, shortest from)) in
+      ap (λ (t : List ℕ). getD t 0 32 ∷ []) one ∙ sym one
+
+  pub column : Column
+  unfolding hemisphere
+  column = by (crosses from to) (blank (textOf 6 xs)) refl refl
+    where
+      low : ℕ
+      low = lowestDigit from to (number (textOf 6 xs)) (number (textOf 7 xs)) (number (textOf 8 xs))
+
+      stay : ℕ
+      stay = getD (textOf 6 xs) 0 32
+
+      chosen : (x b : Bool) → crosses from to ≡ x → blank (textOf 6 xs) ≡ b → hemisphere from to xs ≡ cond (x && not b) low stay
+      chosen x b f g = ap (λ (y : Bool). cond (y && there (textOf 6 xs)) low stay) f ∙ ap (λ (y : Bool). cond (x && not y) low stay) g
+
+      kept : (crosses from to ≡ false) ⊎ (blank (textOf 6 xs) ≡ true) → hemisphere from to xs ≡ stay → Column
+      kept w h = stays w (six-text ∙ ap (λ (n : ℕ). n ∷ []) h ∙ own-six)
+
+      found : place
+      found = digit-found from to (number (textOf 6 xs)) (number (textOf 7 xs)) (number (textOf 8 xs))
+
+      by : (x b : Bool) → crosses from to ≡ x → blank (textOf 6 xs) ≡ b → Column
+      by false b f g = kept (inl f) (chosen false b f g)
+      by true true f g = kept (inr g) (chosen true true f g)
+      by true false f g = moves g found (six-text ∙ ap (λ (n : ℕ). n ∷ []) (chosen true false f g ∙ found .is))
+
+  -- it is there exactly where it was
+  pub same-there : blank (textOf 6 (result from to xs a)) ≡ blank (textOf 6 xs)
+  same-there = by column
+    where
+      by : Column → blank (textOf 6 (result from to xs a)) ≡ blank (textOf 6 xs)
+      by (stays w e) = ap blank e
+      by (moves b f e) = ap blank e ∙ digit-there (f .digit) ∙ sym b

@@ -1,0 +1,285 @@
+-- Demand 3: each element but column 111 keeps its meaning or is blank, and is blank exactly when the target has no legal text with that meaning. Assumes nothing.
+use mathlib.Core.Path.{_≡_, refl, sym, ap, _∙_}
+use mathlib.Core.Logic.{_⊎_, inl, inr, _↔_, ⊎-elim}
+use mathlib.Core.Bool.{Bool, true, false, cond, not, _&&_, _||_, true≢false}
+use mathlib.Core.List.{List, [], _∷_}
+use Prim.Native.Nat.{ℕ, _+_, _<_, _≤_}
+use native.Mathlib.Omega.{arith}
+use borrow.Author.Tests.{eqb-true, eq-eqb, leb-true, leb-false}
+use lib.Dec.{eqb, leb, lit≤}
+use lib.IntN.{ℤ}
+use Rattle.text.specs.Bytes.{every, blank, number}
+use Rattle.text.specs.Texts.{among, allows}
+use Rattle.text.proofs.Ways.{and-first, and-second}
+use Rattle.text.proofs.Among.{either-half, among-cases, at-number}
+use Rattle.layout.specs.declared.Edition.{Edition}
+use Rattle.layout.specs.declared.Edition.the-variants.{One, Three, Four}
+use Rattle.layout.specs.Editions.{lengthOf, lastOf}
+use Rattle.layout.specs.Page.{textOf, textsOf, mayBeBlank, legal}
+use Rattle.layout.proofs.Beyond.{text-none, legal-none}
+use Rattle.ties.specs.Ties.{there}
+use Rattle.checking.specs.Acceptable.{Acceptable}
+use Rattle.reading.specs.declared.Place.{Place}
+use Rattle.reading.specs.declared.Reading.{Reading}
+use Rattle.reading.specs.declared.Reading.the-variants.{Missing, At}
+use Rattle.reading.specs.Readings.{signed, south, west, east, placeOf, temperature, lead, itemOf, readingOf}
+use Rattle.hemispheres.specs.Digits.{crosses}
+use Rattle.hemispheres.proofs.Demand3Digits.{Found, same-numbers}
+use Rattle.recasting.specs.declared.Sense.{Sense}
+use Rattle.recasting.specs.declared.Sense.the-variants.{Alike}
+use Rattle.recasting.specs.Meaning.{senseOf, senseNumber, sameSense, withoutDigit, shares, Meaning, reads, says, meaningOf}
+use Rattle.recasting.specs.Recast.{keeps, lostText, lostAt, recastRecord}
+use Rattle.recasting.specs.Lost.{Expressible, Lost}
+use Rattle.recasting.proofs.SenseLaws.{same-sense}
+use Rattle.recasting.proofs.ResultLaws.{Plain, result, result-long, result-beyond, as-it-was, lost-blank, new-blank}
+use Rattle.recasting.proofs.EndLaws.{nothing-there}
+use Rattle.recasting.proofs.NeverLaws.{shared, column-12}
+use Rattle.recasting.proofs.ColumnLaws.{digit-there, digit-number, Column, stays, moves, column, same-there}
+use Rattle.recasting.proofs.TiedLaws.{same-latitude, same-longitude, same-air-sign, same-air, same-dew-point-sign, same-dew-point, same-sea-sign, same-sea, same-wet-bulb-sign, same-wet-bulb}
+use Rattle.recasting.proofs.Demand3Accepted.{every-legal}
+
+-- two places with the same numbers mean the same
+alike-places : (b : Bool) (p q : Place) → p .latitude ≡ q .latitude → p .longitude ≡ q .longitude → withoutDigit (cond b Missing (At p)) ≡ withoutDigit (cond b Missing (At q))
+alike-places true p q f g = refl
+alike-places false p q f g =
+    ap (λ (n : ℤ). At (record { latitude = n; longitude = p .longitude; digit = 0 })) f ∙ ap (λ (n : ℕ). At (record { latitude = q .latitude; longitude = n; digit = 0 })) g
+
+-- a blank digit gives no place
+no-place : (ed : Edition) (q la lo : List ℕ) → blank q ≡ true → placeOf ed q la lo ≡ Missing
+unfolding placeOf
+no-place ed q la lo b = rw b
+
+-- editions between which column 12 stays read it alike
+alike-digits : (from to : Edition) (q la lo : List ℕ) → crosses from to ≡ false → placeOf to q la lo ≡ placeOf from q la lo
+unfolding placeOf south west
+alike-digits One One q la lo h = refl
+alike-digits One Three q la lo h = absurd (true≢false h)
+alike-digits One Four q la lo h = absurd (true≢false h)
+alike-digits Three One q la lo h = absurd (true≢false h)
+alike-digits Three Three q la lo h = refl
+alike-digits Three Four q la lo h = refl
+alike-digits Four One q la lo h = absurd (true≢false h)
+alike-digits Four Three q la lo h = refl
+alike-digits Four Four q la lo h = refl
+
+-- the digit that is taken gives the place that the other gave
+moved : (from to : Edition) (q la lo : List ℕ) → blank q ≡ false → (f : Found from to (number q) (number la) (number lo)) →
+    withoutDigit (placeOf to ((48 + f .digit) ∷ []) la lo) ≡ withoutDigit (placeOf from q la lo)
+unfolding placeOf
+moved from to q la lo b f =
+    let n = same-numbers from to (number q) (f .digit) (number la) (number lo) (f .same) in
+    rw (digit-there (f .digit), digit-number (f .digit), b) (alike-places (blank la || blank lo) _ _ (sym (n .0)) (sym (n .1)))
+
+-- the characters and the sense of what is said
+abbrev words : Meaning → List ℕ
+words (reads r) = []
+words (says t s) = t
+
+abbrev sense : Meaning → Sense
+sense (reads r) = Alike
+sense (says t s) = s
+
+not-there : (t : List ℕ) → there t ≡ true → blank t ≡ false
+not-there t h = by (blank t) refl
+  where
+    by : (x : Bool) → blank t ≡ x → x ≡ false
+    by true e = absurd (true≢false (sym h ∙ ap not e))
+    by false e = refl
+
+-- one text of an element
+module _ (from to : Edition) (e : ℕ) (t : List ℕ) where
+  lost-there : lostText from to e t ≡ true → there t ≡ true
+  unfolding lostText
+  lost-there k = and-first _ _ k
+
+  lost-filled : lostText from to e t ≡ true → blank t ≡ false
+  lost-filled k = not-there t (lost-there k)
+
+  -- characters that are legal in the target, in the sense in which they stood, are not lost
+  said-kept : (text : List ℕ) → Plain e → blank t ≡ false → legal to text e ≡ true → textOf e text ≡ t → senseOf to e (textOf e text) ≡ senseOf from e t → lostText from to e t ≡ false
+  unfolding lostText keeps legal
+  said-kept text plain b lawful same senses =
+      let allowed : ((mayBeBlank e && blank t) || allows (textsOf to e) t) ≡ true = rw same at lawful in
+      let sense-same : senseOf to e t ≡ senseOf from e t = sym (ap (senseOf to e) same) ∙ senses in
+      by (mayBeBlank e) (allows (textsOf to e) t) refl (rw b at allowed) sense-same
+    where
+      by : (m x : Bool) → allows (textsOf to e) t ≡ x → ((m && false) || x) ≡ true → senseOf to e t ≡ senseOf from e t → (not (blank t) && not (keeps from to e t)) ≡ false
+      by m true p q s = rw (b, plain .0, plain .1, p, s, eq-eqb (senseNumber (senseOf from e t)) (senseNumber (senseOf from e t)) refl)
+      by true false p q s = absurd (true≢false (sym q))
+      by false false p q s = absurd (true≢false (sym q))
+
+module _ (from to : Edition) (xs : List ℕ) (a : Acceptable from xs) where
+  -- the place: the same two numbers
+  place-kept : withoutDigit (placeOf to (textOf 6 (result from to xs a)) (textOf 7 (result from to xs a)) (textOf 8 (result from to xs a))) ≡
+      withoutDigit (placeOf from (textOf 6 xs) (textOf 7 xs) (textOf 8 xs))
+  place-kept = rw (same-latitude from to xs a, same-longitude from to xs a) (by (column from to xs a))
+    where
+      by : Column from to xs a → withoutDigit (placeOf to (textOf 6 (result from to xs a)) (textOf 7 xs) (textOf 8 xs)) ≡ withoutDigit (placeOf from (textOf 6 xs) (textOf 7 xs) (textOf 8 xs))
+      by (stays w e) =
+          ap (λ (t : List ℕ). withoutDigit (placeOf to t (textOf 7 xs) (textOf 8 xs))) e ∙
+          ap withoutDigit
+          (⊎-elim (alike-digits from to (textOf 6 xs) (textOf 7 xs) (textOf 8 xs)) (λ b. no-place to (textOf 6 xs) (textOf 7 xs) (textOf 8 xs) b ∙ sym (no-place from (textOf 6 xs) (textOf 7 xs) (textOf 8 xs) b)) w)
+      by (moves b f e) = ap (λ (t : List ℕ). withoutDigit (placeOf to t (textOf 7 xs) (textOf 8 xs))) e ∙ moved from to (textOf 6 xs) (textOf 7 xs) (textOf 8 xs) b f
+
+  -- what shares a reading
+  abbrev Kept : ℕ → Type 0
+  Kept l = withoutDigit (itemOf to (result from to xs a) l) ≡ withoutDigit (itemOf from xs l)
+
+  pair-kept : (e f : ℕ) → textOf e (result from to xs a) ≡ textOf e xs → textOf f (result from to xs a) ≡ textOf f xs →
+      withoutDigit (temperature (textOf e (result from to xs a)) (textOf f (result from to xs a))) ≡ withoutDigit (temperature (textOf e xs) (textOf f xs))
+  pair-kept e f p q = rw (p, q)
+
+  item-kept : (l : ℕ) → (among 6 16 18 28 l || eqb l 50) ≡ true → Kept l
+  unfolding itemOf
+  item-kept l h =
+      ⊎-elim
+      (among-cases Kept 6 16 18 28 l
+      place-kept
+      (pair-kept 16 17 (same-air-sign from to xs a) (same-air from to xs a))
+      (pair-kept 18 19 (same-dew-point-sign from to xs a) (same-dew-point from to xs a))
+      (pair-kept 28 29 (same-sea-sign from to xs a) (same-sea from to xs a)))
+      (λ m. at-number Kept l 50 m (pair-kept 50 51 (same-wet-bulb-sign from to xs a) (same-wet-bulb from to xs a)))
+      (either-half _ _ h)
+
+  -- an element that is filled and not lost means what it meant
+  module _ (e : ℕ) (h : 1 ≤ e) (l : e ≤ 101) (other : eqb e 65 ≡ false) where
+    alone : shares e ≡ false → eqb e 6 ≡ false
+    alone s = by (eqb e 6) refl
+      where
+        by : (x : Bool) → eqb e 6 ≡ x → x ≡ false
+        by true k = absurd (true≢false (ap shares (sym (eqb-true e 6 k)) ∙ s))
+        by false k = refl
+
+    -- a text that is filled and not lost is legal in the target, in the same sense
+    kept-there : eqb e 6 ≡ false → blank (textOf e xs) ≡ false → lostAt from to xs e ≡ false →
+        (allows (textsOf to e) (textOf e xs) ≡ true) × (sameSense (senseOf from e (textOf e xs)) (senseOf to e (textOf e xs)) ≡ true)
+    unfolding lostText keeps
+    kept-there p b k = by _ _ refl refl
+      where
+        by : (x y : Bool) → allows (textsOf to e) (textOf e xs) ≡ x → sameSense (senseOf from e (textOf e xs)) (senseOf to e (textOf e xs)) ≡ y → (x ≡ true) × (y ≡ true)
+        by true true f g = (refl, refl)
+        by true false f g = absurd (true≢false (sym (rw (b, p, other, f, g)) ∙ k))
+        by false y f g = absurd (true≢false (sym (rw (b, p, other, f)) ∙ k))
+
+    -- so the target has such an element
+    pub held-there : eqb e 6 ≡ false → blank (textOf e xs) ≡ false → lostAt from to xs e ≡ false → e ≤ lastOf to
+    held-there p b k = by (leb e (lastOf to)) refl
+      where
+        by : (x : Bool) → leb e (lastOf to) ≡ x → e ≤ lastOf to
+        by true f = leb-true _ _ f
+        by false f = absurd (true≢false (sym (kept-there p b k .0) ∙ nothing-there to e (leb-false _ _ f) l (textOf e xs)))
+
+    held-here : blank (textOf e xs) ≡ false → e ≤ lastOf from
+    unfolding every
+    held-here b = by (leb e (lastOf from)) refl
+      where
+        by : (x : Bool) → leb e (lastOf from) ≡ x → e ≤ lastOf from
+        by true f = leb-true _ _ f
+        by false f = absurd (true≢false (sym (ap blank (text-none from xs (a .full) e (leb-false _ _ f))) ∙ b))
+
+    pub meaning-kept : blank (textOf e xs) ≡ false → lostAt from to xs e ≡ false → meaningOf to (result from to xs a) e ≡ meaningOf from xs e
+    unfolding meaningOf
+    meaning-kept b k = by (shares e) refl
+      where
+        by : (x : Bool) → shares e ≡ x → meaningOf to (result from to xs a) e ≡ meaningOf from xs e
+        by true s = rw s (ap reads (item-kept (lead e) s))
+        by false s =
+            let p = alone s in
+            let t : textOf e (result from to xs a) ≡ textOf e xs = as-it-was from to xs a e (p, other) h (held-here b) (held-there p b k) k in
+            rw (s, t) (ap (says (textOf e xs)) (sym (same-sense _ _ (kept-there p b k .1))))
+
+    -- an element that is filled is blank in the result exactly where it is lost
+    not-lost-filled : blank (textOf e xs) ≡ false → lostAt from to xs e ≡ false → blank (textOf e (result from to xs a)) ≡ false
+    not-lost-filled b k = by (eqb e 6) refl
+      where
+        six : blank (textOf 6 xs) ≡ false → blank (textOf 6 (result from to xs a)) ≡ false
+        six c = same-there from to xs a ∙ c
+
+        by : (x : Bool) → eqb e 6 ≡ x → blank (textOf e (result from to xs a)) ≡ false
+        by true p = at-number (λ n. blank (textOf n xs) ≡ false → blank (textOf n (result from to xs a)) ≡ false) e 6 p six b
+        by false p = ap blank (as-it-was from to xs a e (p, other) h (held-here b) (held-there p b k) k) ∙ b
+
+    blank-stays : blank (textOf e xs) ≡ true → lostAt from to xs e ≡ false → blank (textOf e (result from to xs a)) ≡ true
+    unfolding every
+    blank-stays b k = by (eqb e 6) (leb e (lastOf to)) (leb e (lastOf from)) refl refl refl
+      where
+        six : blank (textOf 6 xs) ≡ true → blank (textOf 6 (result from to xs a)) ≡ true
+        six c = same-there from to xs a ∙ c
+
+        by : (x y z : Bool) → eqb e 6 ≡ x → leb e (lastOf to) ≡ y → leb e (lastOf from) ≡ z → blank (textOf e (result from to xs a)) ≡ true
+        by true y z p q r = at-number (λ n. blank (textOf n xs) ≡ true → blank (textOf n (result from to xs a)) ≡ true) e 6 p six b
+        by false false z p q r = ap blank (result-beyond from to xs a e (leb-false _ _ q))
+        by false true true p q r = ap blank (as-it-was from to xs a e (p, other) h (leb-true _ _ r) (leb-true _ _ q) k) ∙ b
+        by false true false p q r = new-blank from to xs a e (p, other) h (leb-true _ _ q) (leb-false _ _ r) k
+
+    plain-lost : lostAt from to xs e ≡ true → Plain e
+    plain-lost k = (by (eqb e 6) refl, other)
+      where
+        by : (x : Bool) → eqb e 6 ≡ x → x ≡ false
+        by true p = absurd (true≢false (sym k ∙ ap (lostAt from to xs) (eqb-true e 6 p) ∙ column-12 from to xs a))
+        by false p = refl
+
+    -- an element keeps its meaning, or is blank
+    pub kept-or-blank : (meaningOf to (result from to xs a) e ≡ meaningOf from xs e) ⊎ (blank (textOf e (result from to xs a)) ≡ true)
+    kept-or-blank = by (blank (textOf e xs)) (lostAt from to xs e) refl refl
+      where
+        by : (b k : Bool) → blank (textOf e xs) ≡ b → lostAt from to xs e ≡ k → (meaningOf to (result from to xs a) e ≡ meaningOf from xs e) ⊎ (blank (textOf e (result from to xs a)) ≡ true)
+        by b true p q = inr (lost-blank from to xs a e (plain-lost q) h q)
+        by false false p q = inl (meaning-kept p q)
+        by true false p q = inr (blank-stays p q)
+
+    -- the result itself has the meaning of an element that is filled and not lost
+    expressible : blank (textOf e xs) ≡ false → lostAt from to xs e ≡ false → Expressible from to xs e
+    expressible b k = record {
+      text = result from to xs a;
+      full = result-long from to xs a;
+      lawful = λ f m n s. by f m (leb f (lastOf to)) refl;
+      means = meaning-kept b k;
+    }
+      where
+        by : (f : ℕ) → 1 ≤ f → (x : Bool) → leb f (lastOf to) ≡ x → legal to (result from to xs a) f ≡ true
+        by f m true y = every-legal from to xs a f m (leb-true _ _ y)
+        by f m false y = legal-none to (result from to xs a) (result-long from to xs a) f (leb-false _ _ y)
+
+    said : (x : Expressible from to xs e) → shares e ≡ false → says (textOf e (x .text)) (senseOf to e (textOf e (x .text))) ≡ says (textOf e xs) (senseOf from e (textOf e xs))
+    unfolding meaningOf
+    said x s = let m : meaningOf to (x .text) e ≡ meaningOf from xs e = x .means in rw s at m
+
+    -- a legal text of the target with the meaning of an element that is lost: there is none
+    none-means : lostAt from to xs e ≡ true → Expressible from to xs e → ⊥
+    none-means k x = by (shares e) refl
+      where
+        plain : Plain e
+        plain = plain-lost k
+
+        filled : blank (textOf e xs) ≡ false
+        filled = lost-filled from to e (textOf e xs) k
+
+        by : (s : Bool) → shares e ≡ s → ⊥
+        by true s = true≢false (sym k ∙ shared from to xs a e s)
+        by false s = true≢false (sym k ∙ said-kept from to e (textOf e xs) (x .text) plain filled (x .lawful e h l refl) (ap words (said x s)) (ap sense (said x s)))
+
+    -- an element is lost exactly when it is filled and no legal text of the target has its meaning
+    pub lost-exactly : (lostAt from to xs e ≡ true) ↔ Lost from to xs e
+    lost-exactly = (
+      λ k. record { filled = lost-there from to e (textOf e xs) k; none = none-means k },
+      λ lost. by (lostAt from to xs e) refl lost,
+    )
+      where
+        by : (k : Bool) → lostAt from to xs e ≡ k → Lost from to xs e → k ≡ true
+        by true p lost = refl
+        by false p lost = absurd (lost .none (expressible (not-there (textOf e xs) (lost .filled)) p))
+
+    -- an element that is filled is blank in the result exactly when no legal text of the target has its meaning
+    pub blank-exactly : there (textOf e xs) ≡ true → (blank (textOf e (result from to xs a)) ≡ true) ↔ (Expressible from to xs e → ⊥)
+    blank-exactly f = (λ b. to-none b, λ n. lost-blank from to xs a e (plain-lost (is-lost n)) h (is-lost n))
+      where
+        is-lost : (Expressible from to xs e → ⊥) → lostAt from to xs e ≡ true
+        is-lost n = lost-exactly .1 (record { filled = f; none = n })
+
+        to-none : blank (textOf e (result from to xs a)) ≡ true → Expressible from to xs e → ⊥
+        to-none b = by (lostAt from to xs e) refl
+          where
+            by : (k : Bool) → lostAt from to xs e ≡ k → Expressible from to xs e → ⊥
+            by true k = none-means k
+            by false k = λ x. true≢false (sym b ∙ not-lost-filled (not-there (textOf e xs) f) k)

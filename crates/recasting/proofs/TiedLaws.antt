@@ -1,0 +1,143 @@
+-- The ties of the recast record: the elements that they speak of are what they were, but for column 12, and RWS may have become blank. Assumes nothing.
+use mathlib.Core.Path.{_≡_, refl, sym, ap, _∙_}
+use mathlib.Core.Logic.{_⊎_, inl, inr, ⊎-elim}
+use mathlib.Core.Bool.{Bool, true, false, not, _&&_, _||_, Bool·beq, true≢false}
+use mathlib.Core.List.{List, [], _∷_}
+use Prim.Native.Nat.{ℕ, zero, suc, _+_, _≤_}
+use native.Mathlib.Omega.{arith}
+use borrow.Author.Tests.{leb-true, leb-false}
+use lib.Dec.{leb, lit≤}
+use Rattle.text.specs.Bytes.{every, blank, number}
+use Rattle.layout.specs.declared.Edition.{Edition}
+use Rattle.layout.specs.declared.Edition.the-variants.{One, Three, Four}
+use Rattle.layout.specs.Editions.{lastOf}
+use Rattle.layout.specs.Page.{textOf}
+use Rattle.ties.specs.Ties.{placeTie, octantTie, octantFits, signTie, digitTie, windTie, tie}
+use Rattle.checking.specs.Acceptable.{Acceptable}
+use Rattle.hemispheres.specs.Digits.{keepsTie, crosses}
+use Rattle.hemispheres.proofs.Demand3Digits.{Found}
+use Rattle.recasting.specs.Recast.{lostAt}
+use Rattle.recasting.proofs.ResultLaws.{result, result-beyond, as-it-was, lost-blank, new-blank}
+use Rattle.recasting.proofs.NeverLaws as Never
+use Rattle.recasting.proofs.ColumnLaws.{digit-there, digit-number, Column, stays, moves, column, same-there}
+
+-- tie 2: where the place is blank, between editions that do not cross, and with a digit that keeps it
+tied-blank : (ed : Edition) (t u : List ℕ) → blank t ≡ true → octantTie ed t u ≡ true
+unfolding octantTie
+tied-blank One t u b = rw b
+tied-blank Three t u b = refl
+tied-blank Four t u b = refl
+
+within-tied : (from to : Edition) (t u : List ℕ) → crosses from to ≡ false → octantTie from t u ≡ true → octantTie to t u ≡ true
+unfolding octantTie
+within-tied One One t u c h = h
+within-tied Three One t u c h = absurd (true≢false c)
+within-tied Four One t u c h = absurd (true≢false c)
+within-tied from Three t u c h = refl
+within-tied from Four t u c h = refl
+
+digit-tied : (ed : Edition) (d : ℕ) (u : List ℕ) → keepsTie ed d (number u) ≡ true → octantTie ed ((48 + d) ∷ []) u ≡ true
+unfolding octantTie
+digit-tied One d u h = rw (digit-there d, digit-number d) h
+digit-tied Three d u h = refl
+digit-tied Four d u h = refl
+
+-- ties 8 and 9 ask nothing where there is no speed
+no-speed : (t u : List ℕ) → blank t ≡ true → windTie t u ≡ true
+unfolding windTie
+no-speed t u b = rw b
+
+module _ (from to : Edition) (xs : List ℕ) (a : Acceptable from xs) where
+  abbrev Same : ℕ → Type 0
+  Same e = textOf e (result from to xs a) ≡ textOf e xs
+
+  pub same-format : Same 1
+  same-format = Never.same from to xs a 1 (refl, refl) (lit≤ tt) (lit≤ tt) (Never.format from to xs a)
+
+  pub same-latitude : Same 7
+  same-latitude = Never.same from to xs a 7 (refl, refl) (lit≤ tt) (lit≤ tt) (Never.latitude from to xs a)
+
+  pub same-longitude : Same 8
+  same-longitude = Never.same from to xs a 8 (refl, refl) (lit≤ tt) (lit≤ tt) (Never.longitude from to xs a)
+
+  pub same-indicator : Same 14
+  same-indicator = Never.same from to xs a 14 (refl, refl) (lit≤ tt) (lit≤ tt) (Never.indicator from to xs a)
+
+  pub same-speed : Same 15
+  same-speed = Never.same from to xs a 15 (refl, refl) (lit≤ tt) (lit≤ tt) (Never.speed from to xs a)
+
+  pub same-air-sign : Same 16
+  same-air-sign = Never.same from to xs a 16 (refl, refl) (lit≤ tt) (lit≤ tt) (Never.air-sign from to xs a)
+
+  pub same-air : Same 17
+  same-air = Never.same from to xs a 17 (refl, refl) (lit≤ tt) (lit≤ tt) (Never.air from to xs a)
+
+  pub same-dew-point-sign : Same 18
+  same-dew-point-sign = Never.same from to xs a 18 (refl, refl) (lit≤ tt) (lit≤ tt) (Never.dew-point-sign from to xs a)
+
+  pub same-dew-point : Same 19
+  same-dew-point = Never.same from to xs a 19 (refl, refl) (lit≤ tt) (lit≤ tt) (Never.dew-point from to xs a)
+
+  pub same-sea-sign : Same 28
+  same-sea-sign = Never.same from to xs a 28 (refl, refl) (lit≤ tt) (lit≤ tt) (Never.sea-sign from to xs a)
+
+  pub same-sea : Same 29
+  same-sea = Never.same from to xs a 29 (refl, refl) (lit≤ tt) (lit≤ tt) (Never.sea from to xs a)
+
+  pub same-wet-bulb-sign : Same 50
+  same-wet-bulb-sign = Never.same from to xs a 50 (refl, refl) (lit≤ tt) (lit≤ tt) (Never.wet-bulb-sign from to xs a)
+
+  pub same-wet-bulb : Same 51
+  same-wet-bulb = Never.same from to xs a 51 (refl, refl) (lit≤ tt) (lit≤ tt) (Never.wet-bulb from to xs a)
+
+  -- RWS is what it was, or blank
+  speed-or-blank : (blank (textOf 93 (result from to xs a)) ≡ true) ⊎ Same 93
+  unfolding every
+  speed-or-blank = by (lostAt from to xs 93) (leb 93 (lastOf from)) (leb 93 (lastOf to)) refl refl refl
+    where
+      by : (x y z : Bool) → lostAt from to xs 93 ≡ x → leb 93 (lastOf from) ≡ y → leb 93 (lastOf to) ≡ z → (blank (textOf 93 (result from to xs a)) ≡ true) ⊎ Same 93
+      by x y false p q r = inl (ap blank (result-beyond from to xs a 93 (leb-false _ _ r)))
+      by true y true p q r = inl (lost-blank from to xs a 93 (refl, refl) (lit≤ tt) p)
+      by false true true p q r = inr (as-it-was from to xs a 93 (refl, refl) (lit≤ tt) (leb-true _ _ q) (leb-true _ _ r) p)
+      by false false true p q r = inl (new-blank from to xs a 93 (refl, refl) (lit≤ tt) (leb-true _ _ r) (leb-false _ _ q) p)
+
+  place-tied : placeTie (textOf 6 (result from to xs a)) (textOf 7 (result from to xs a)) (textOf 8 (result from to xs a)) ≡ true
+  unfolding placeTie tie
+  place-tied = rw (same-there from to xs a, same-latitude, same-longitude) (a .tied 1 (lit≤ tt) (lit≤ tt))
+
+  was : octantTie from (textOf 6 xs) (textOf 8 xs) ≡ true
+  unfolding tie
+  was = a .tied 2 (lit≤ tt) (lit≤ tt)
+
+  octant-tied : octantTie to (textOf 6 (result from to xs a)) (textOf 8 (result from to xs a)) ≡ true
+  octant-tied = ap (octantTie to (textOf 6 (result from to xs a))) same-longitude ∙ by (column from to xs a)
+    where
+      by : Column from to xs a → octantTie to (textOf 6 (result from to xs a)) (textOf 8 xs) ≡ true
+      by (stays w e) = ap (λ (t : List ℕ). octantTie to t (textOf 8 xs)) e ∙ ⊎-elim (λ c. within-tied from to (textOf 6 xs) (textOf 8 xs) c was) (λ b. tied-blank to (textOf 6 xs) (textOf 8 xs) b) w
+      by (moves b f e) = ap (λ (t : List ℕ). octantTie to t (textOf 8 xs)) e ∙ digit-tied to (f .digit) (textOf 8 xs) (f .ties)
+
+  -- a sign and its temperature, a wind and its indicator
+  sign-tied : (e f : ℕ) → Same e → Same f → signTie (textOf e xs) (textOf f xs) ≡ true → signTie (textOf e (result from to xs a)) (textOf f (result from to xs a)) ≡ true
+  sign-tied e f p q h = ap (λ (t : List ℕ). signTie t (textOf f (result from to xs a))) p ∙ ap (signTie (textOf e xs)) q ∙ h
+
+  wind-tied : (e : ℕ) → Same e → windTie (textOf e xs) (textOf 14 xs) ≡ true → windTie (textOf e (result from to xs a)) (textOf 14 (result from to xs a)) ≡ true
+  wind-tied e p h = ap (λ (t : List ℕ). windTie t (textOf 14 (result from to xs a))) p ∙ ap (windTie (textOf e xs)) same-indicator ∙ h
+
+  digits-tied : digitTie (textOf 1 xs) (textOf 17 xs) (textOf 19 xs) (textOf 29 xs) (textOf 51 xs) ≡ true →
+      digitTie (textOf 1 (result from to xs a)) (textOf 17 (result from to xs a)) (textOf 19 (result from to xs a)) (textOf 29 (result from to xs a)) (textOf 51 (result from to xs a)) ≡ true
+  digits-tied h = rw (same-format, same-air, same-dew-point, same-sea, same-wet-bulb) h
+
+  pub ties-kept : (k : ℕ) → 1 ≤ k → k ≤ 9 → tie to (result from to xs a) k ≡ true
+  unfolding tie
+  ties-kept zero h l = absurd (omega arith)
+  ties-kept (suc zero) h l = place-tied
+  ties-kept (suc (suc zero)) h l = octant-tied
+  ties-kept (suc (suc (suc zero))) h l = sign-tied 16 17 same-air-sign same-air (a .tied 3 (lit≤ tt) (lit≤ tt))
+  ties-kept (suc (suc (suc (suc zero)))) h l = sign-tied 18 19 same-dew-point-sign same-dew-point (a .tied 4 (lit≤ tt) (lit≤ tt))
+  ties-kept (suc (suc (suc (suc (suc zero))))) h l = sign-tied 28 29 same-sea-sign same-sea (a .tied 5 (lit≤ tt) (lit≤ tt))
+  ties-kept (suc (suc (suc (suc (suc (suc zero)))))) h l = sign-tied 50 51 same-wet-bulb-sign same-wet-bulb (a .tied 6 (lit≤ tt) (lit≤ tt))
+  ties-kept (suc (suc (suc (suc (suc (suc (suc zero))))))) h l = digits-tied (a .tied 7 (lit≤ tt) (lit≤ tt))
+  ties-kept (suc (suc (suc (suc (suc (suc (suc (suc zero)))))))) h l = wind-tied 15 same-speed (a .tied 8 (lit≤ tt) (lit≤ tt))
+  ties-kept (suc (suc (suc (suc (suc (suc (suc (suc (suc zero))))))))) h l =
+      ⊎-elim (no-speed (textOf 93 (result from to xs a)) (textOf 14 (result from to xs a))) (λ s. wind-tied 93 s (a .tied 9 (lit≤ tt) (lit≤ tt))) speed-or-blank
+  ties-kept (suc (suc (suc (suc (suc (suc (suc (suc (suc (suc k)))))))))) h l = absurd (omega arith)

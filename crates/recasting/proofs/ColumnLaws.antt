@@ -7,7 +7,7 @@ use Prim.Native.Nat.{ℕ, _+_, _-_, _≤_}
 use native.Mathlib.Omega.{arith}
 use borrow.Author.Tests.{le-leb, lt-leb}
 use lib.ListN.{length, getD}
-use Rattle.text.specs.Bytes.{every, between, blank, number, valueFrom}
+use Rattle.text.specs.Bytes.{every, printable, blank, number, valueFrom}
 use Rattle.text.specs.Texts.{allows}
 use Rattle.layout.specs.declared.Edition.{Edition}
 use Rattle.layout.specs.declared.Edition.the-variants.{One, Three, Four}
@@ -17,6 +17,7 @@ use Rattle.layout.proofs.Beyond.{last-above}
 use Rattle.layout.proofs.RecordLaws.{shortest}
 use Rattle.ties.specs.Ties.{there, octantTie, octantFits}
 use Rattle.checking.specs.Acceptable.{Acceptable}
+use Rattle.checking.proofs.PrintLaws.{legal-prints}
 use Rattle.hemispheres.specs.Digits.{keepsTie, mayStand, lowestDigit, isFirst, crosses}
 use Rattle.hemispheres.proofs.Demand3Digits.{Found, digit-found}
 use Rattle.recasting.specs.Recast.{hemisphere, recastText, recastRecord}
@@ -49,10 +50,15 @@ module _ (from to : Edition) (xs : List ℕ) (a : Acceptable from xs) where
   abbrev pub place : Type 0
   place = Found from to (number (textOf 6 xs)) (number (textOf 7 xs)) (number (textOf 8 xs))
 
+  -- what stands in column 12 is printable
+  printable-six : textOf 6 xs ≡ 0 ∷ [] → ⊥
+  unfolding every
+  printable-six z = true≢false (sym (legal-prints from xs 6 (a .lawful 6 (omega arith) (omega (arith, last-above from)))) ∙ ap (every printable) z)
+
   -- what has become of column 12
   pub data Column : Type 0 where
     stays : (crosses from to ≡ false) ⊎ (blank (textOf 6 xs) ≡ true) → textOf 6 (result from to xs a) ≡ textOf 6 xs → Column
-    moves : blank (textOf 6 xs) ≡ false → (f : place) → textOf 6 (result from to xs a) ≡ (48 + f .digit) ∷ [] → Column
+    moves : crosses from to ≡ true → blank (textOf 6 xs) ≡ false → (f : place) → textOf 6 (result from to xs a) ≡ (48 + f .digit) ∷ [] → Column
 
   six-text : textOf 6 (result from to xs a) ≡ hemisphere from to xs ∷ []
   unfolding recastText
@@ -86,7 +92,7 @@ module _ (from to : Edition) (xs : List ℕ) (a : Acceptable from xs) where
       by : (x b : Bool) → crosses from to ≡ x → blank (textOf 6 xs) ≡ b → Column
       by false b f g = kept (inl f) (chosen false b f g)
       by true true f g = kept (inr g) (chosen true true f g)
-      by true false f g = moves g found (six-text ∙ ap (λ (n : ℕ). n ∷ []) (chosen true false f g ∙ found .is))
+      by true false f g = moves f g found (six-text ∙ ap (λ (n : ℕ). n ∷ []) (chosen true false f g ∙ found .is))
 
   -- it is there exactly where it was
   pub same-there : blank (textOf 6 (result from to xs a)) ≡ blank (textOf 6 xs)
@@ -94,4 +100,16 @@ module _ (from to : Edition) (xs : List ℕ) (a : Acceptable from xs) where
     where
       by : Column → blank (textOf 6 (result from to xs a)) ≡ blank (textOf 6 xs)
       by (stays w e) = ap blank e
-      by (moves b f e) = ap blank e ∙ digit-there (f .digit) ∙ sym b
+      by (moves c b f e) = ap blank e ∙ digit-there (f .digit) ∙ sym b
+
+  -- there is always something to write there
+  pub never-none : hemisphere from to xs ≡ 0 → ⊥
+  unfolding every valueFrom
+  never-none z = by column
+    where
+      zero-there : textOf 6 (result from to xs a) ≡ 0 ∷ []
+      zero-there = six-text ∙ ap (λ (n : ℕ). n ∷ []) z
+
+      by : Column → ⊥
+      by (stays w e) = printable-six (sym e ∙ zero-there)
+      by (moves c b f e) = let n : 48 + f .digit ≡ 0 = ap (λ (t : List ℕ). getD t 0 32) (sym e ∙ zero-there) in omega arith

@@ -65,7 +65,7 @@ module _ (from to : Edition) (xs : List ℕ) (a : Acceptable from xs) where
       by (stays w e) =
           ap (legalText to 6) e ∙
           ⊎-elim (λ c. ap (λ (s : Texts). (mayBeBlank 6 && blank (textOf 6 xs)) || allows s (textOf 6 xs)) (sym (same-digits from to c)) ∙ was) (λ b. blank-legal to 6 (textOf 6 xs) refl b) w
-      by (moves b f e) = ap (legalText to 6) e ∙ allowed-legal to 6 ((48 + f .digit) ∷ []) (f .stands)
+      by (moves c b f e) = ap (legalText to 6) e ∙ allowed-legal to 6 ((48 + f .digit) ∷ []) (f .stands)
 
   -- column 111
   names-target : (ed : Edition) → allows (textsOf ed 65) (digitOf ed ∷ []) ≡ true

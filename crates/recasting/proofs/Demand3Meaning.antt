@@ -119,7 +119,7 @@ module _ (from to : Edition) (xs : List ℕ) (a : Acceptable from xs) where
           ap (λ (t : List ℕ). withoutDigit (placeOf to t (textOf 7 xs) (textOf 8 xs))) e ∙
           ap withoutDigit
           (⊎-elim (alike-digits from to (textOf 6 xs) (textOf 7 xs) (textOf 8 xs)) (λ b. no-place to (textOf 6 xs) (textOf 7 xs) (textOf 8 xs) b ∙ sym (no-place from (textOf 6 xs) (textOf 7 xs) (textOf 8 xs) b)) w)
-      by (moves b f e) = ap (λ (t : List ℕ). withoutDigit (placeOf to t (textOf 7 xs) (textOf 8 xs))) e ∙ moved from to (textOf 6 xs) (textOf 7 xs) (textOf 8 xs) b f
+      by (moves c b f e) = ap (λ (t : List ℕ). withoutDigit (placeOf to t (textOf 7 xs) (textOf 8 xs))) e ∙ moved from to (textOf 6 xs) (textOf 7 xs) (textOf 8 xs) b f
 
   -- what shares a reading
   abbrev Kept : ℕ → Type 0
@@ -169,7 +169,7 @@ module _ (from to : Edition) (xs : List ℕ) (a : Acceptable from xs) where
         by true f = leb-true _ _ f
         by false f = absurd (true≢false (sym (kept-there p b k .0) ∙ nothing-there to e (leb-false _ _ f) l (textOf e xs)))
 
-    held-here : blank (textOf e xs) ≡ false → e ≤ lastOf from
+    pub held-here : blank (textOf e xs) ≡ false → e ≤ lastOf from
     unfolding every
     held-here b = by (leb e (lastOf from)) refl
       where
@@ -189,7 +189,7 @@ module _ (from to : Edition) (xs : List ℕ) (a : Acceptable from xs) where
             rw (s, t) (ap (says (textOf e xs)) (sym (same-sense _ _ (kept-there p b k .1))))
 
     -- an element that is filled is blank in the result exactly where it is lost
-    not-lost-filled : blank (textOf e xs) ≡ false → lostAt from to xs e ≡ false → blank (textOf e (result from to xs a)) ≡ false
+    pub not-lost-filled : blank (textOf e xs) ≡ false → lostAt from to xs e ≡ false → blank (textOf e (result from to xs a)) ≡ false
     not-lost-filled b k = by (eqb e 6) refl
       where
         six : blank (textOf 6 xs) ≡ false → blank (textOf 6 (result from to xs a)) ≡ false
@@ -199,7 +199,7 @@ module _ (from to : Edition) (xs : List ℕ) (a : Acceptable from xs) where
         by true p = at-number (λ n. blank (textOf n xs) ≡ false → blank (textOf n (result from to xs a)) ≡ false) e 6 p six b
         by false p = ap blank (as-it-was from to xs a e (p, other) h (held-here b) (held-there p b k) k) ∙ b
 
-    blank-stays : blank (textOf e xs) ≡ true → lostAt from to xs e ≡ false → blank (textOf e (result from to xs a)) ≡ true
+    pub blank-stays : blank (textOf e xs) ≡ true → lostAt from to xs e ≡ false → blank (textOf e (result from to xs a)) ≡ true
     unfolding every
     blank-stays b k = by (eqb e 6) (leb e (lastOf to)) (leb e (lastOf from)) refl refl refl
       where
@@ -212,7 +212,7 @@ module _ (from to : Edition) (xs : List ℕ) (a : Acceptable from xs) where
         by false true true p q r = ap blank (as-it-was from to xs a e (p, other) h (leb-true _ _ r) (leb-true _ _ q) k) ∙ b
         by false true false p q r = new-blank from to xs a e (p, other) h (leb-true _ _ q) (leb-false _ _ r) k
 
-    plain-lost : lostAt from to xs e ≡ true → Plain e
+    pub plain-lost : lostAt from to xs e ≡ true → Plain e
     plain-lost k = (by (eqb e 6) refl, other)
       where
         by : (x : Bool) → eqb e 6 ≡ x → x ≡ false
@@ -229,7 +229,7 @@ module _ (from to : Edition) (xs : List ℕ) (a : Acceptable from xs) where
         by true false p q = inr (blank-stays p q)
 
     -- the result itself has the meaning of an element that is filled and not lost
-    expressible : blank (textOf e xs) ≡ false → lostAt from to xs e ≡ false → Expressible from to xs e
+    pub expressible : blank (textOf e xs) ≡ false → lostAt from to xs e ≡ false → Expressible from to xs e
     expressible b k = record {
       text = result from to xs a;
       full = result-long from to xs a;

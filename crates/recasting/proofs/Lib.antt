@@ -13,3 +13,6 @@ pub mod TiedLaws
 pub mod SenseLaws
 pub mod Demand3Accepted
 pub mod Demand3Meaning
+pub mod Demand3Losses
+pub mod FitLaws
+pub mod Demand3Outcomes

@@ -114,7 +114,7 @@ module _ (from to : Edition) (xs : List ℕ) (a : Acceptable from xs) where
     where
       by : Column from to xs a → octantTie to (textOf 6 (result from to xs a)) (textOf 8 xs) ≡ true
       by (stays w e) = ap (λ (t : List ℕ). octantTie to t (textOf 8 xs)) e ∙ ⊎-elim (λ c. within-tied from to (textOf 6 xs) (textOf 8 xs) c was) (λ b. tied-blank to (textOf 6 xs) (textOf 8 xs) b) w
-      by (moves b f e) = ap (λ (t : List ℕ). octantTie to t (textOf 8 xs)) e ∙ digit-tied to (f .digit) (textOf 8 xs) (f .ties)
+      by (moves c b f e) = ap (λ (t : List ℕ). octantTie to t (textOf 8 xs)) e ∙ digit-tied to (f .digit) (textOf 8 xs) (f .ties)
 
   -- a sign and its temperature, a wind and its indicator
   sign-tied : (e f : ℕ) → Same e → Same f → signTie (textOf e xs) (textOf f xs) ≡ true → signTie (textOf e (result from to xs a)) (textOf f (result from to xs a)) ≡ true

@@ -1,3 +1,4 @@
 pub mod Meaning
 pub mod Recast
 pub mod Lost
+pub mod Fits

@@ -14,8 +14,7 @@ use Prim.Native.Nat.{ℕ, _+_, _-_, _<_, _≤_}
 use native.Mathlib.Nat.{add-comm}
 use native.Mathlib.Omega.{arith}
 use lib.ListN.{length, length-append}
-use Rattle.losses.specs.Losses.{elements, word, losses, noLosses, lostList, lossesOf}
-use Rattle.losses.specs.Losses.{hasBit, hasLoss, countOf, lowestOf, member, first, Rising}
+use Rattle.losses.specs.Losses.{elements, word, losses, noLosses, lostList, lossesOf, hasBit, hasLoss, countOf, lowestOf, member, first, Rising}
 use Rattle.losses.proofs.Words.{has-bit, has-no-bit, word-ones, word-first, word-none, word-some}
 use Rattle.losses.proofs.Listed.{none-outside, listed, elements-split, elements-rise, same-word, same-elements, no-word, no-elements}
 use Rattle.losses.proofs.Ways.{up-to-or-past, has-zero, has-low, has-high, has-past, lowest-low, lowest-high, lowest-none}

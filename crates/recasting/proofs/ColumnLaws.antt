@@ -1,26 +1,24 @@
 -- Column 12 of the recast record: it stays, or it is the lowest digit with the same place that keeps tie 2. Assumes nothing.
 use mathlib.Core.Path.{_≡_, refl, sym, ap, _∙_}
 use mathlib.Core.Logic.{_⊎_, inl, inr}
-use mathlib.Core.Bool.{Bool, true, false, cond, not, _&&_, Bool·beq, true≢false}
+use mathlib.Core.Bool.{Bool, true, false, cond, not, _&&_, true≢false}
 use mathlib.Core.List.{List, [], _∷_}
-use Prim.Native.Nat.{ℕ, _+_, _-_, _≤_}
+use Prim.Native.Nat.{ℕ, _+_, _-_}
 use native.Mathlib.Omega.{arith}
 use borrow.Author.Tests.{le-leb, lt-leb}
-use lib.ListN.{length, getD}
+use lib.ListN.{getD}
 use Rattle.text.specs.Bytes.{every, printable, blank, number, valueFrom}
-use Rattle.text.specs.Texts.{allows}
 use Rattle.layout.specs.declared.Edition.{Edition}
 use Rattle.layout.specs.declared.Edition.the-variants.{One, Three, Four}
-use Rattle.layout.specs.Editions.{lengthOf, lastOf}
 use Rattle.layout.specs.Page.{page, element, textOf, textsOf}
 use Rattle.layout.proofs.Beyond.{last-above}
 use Rattle.layout.proofs.RecordLaws.{shortest}
-use Rattle.ties.specs.Ties.{there, octantTie, octantFits}
+use Rattle.ties.specs.Ties.{there}
 use Rattle.checking.specs.Acceptable.{Acceptable}
 use Rattle.checking.proofs.PrintLaws.{legal-prints}
-use Rattle.hemispheres.specs.Digits.{keepsTie, mayStand, lowestDigit, isFirst, crosses}
+use Rattle.hemispheres.specs.Digits.{lowestDigit, crosses}
 use Rattle.hemispheres.proofs.Demand3Digits.{Found, digit-found}
-use Rattle.recasting.specs.Recast.{hemisphere, recastText, recastRecord}
+use Rattle.recasting.specs.Recast.{hemisphere, recastText}
 use Rattle.recasting.proofs.PlaceLaws.{six, one-column}
 use Rattle.recasting.proofs.ResultLaws.{result, result-text}
 

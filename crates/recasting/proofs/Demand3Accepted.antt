@@ -21,7 +21,6 @@ use Rattle.checking.specs.Check.{checked}
 use Rattle.checking.specs.Acceptable.{Acceptable}
 use Rattle.checking.proofs.Demand2Acceptance.{accepted-exactly}
 use Rattle.checking.proofs.LegalLaws.{legal-record}
-use Rattle.hemispheres.proofs.Demand3Digits.{Found}
 use Rattle.recasting.specs.Meaning.{senseOf, sameSense}
 use Rattle.recasting.specs.Recast.{keeps, lostText, lostAt, digitOf, recastText, recastRecord}
 use Rattle.recasting.proofs.ResultLaws.{Plain, result, result-long, result-text, as-it-was, lost-blank, new-blank}

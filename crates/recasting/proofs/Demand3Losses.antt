@@ -2,10 +2,9 @@
 -- never lost; to the same edition the result is the record and nothing is lost. Assumes nothing.
 use mathlib.Core.Path.{_≡_, refl, sym, ap, _∙_}
 use mathlib.Core.Logic.{_⊎_, _↔_, ⊎-elim}
-use mathlib.Core.Bool.{Bool, true, false, cond, not, _&&_, _||_, Bool·beq, true≢false}
+use mathlib.Core.Bool.{Bool, true, false, not, _&&_, _||_, true≢false}
 use mathlib.Core.List.{List, [], _∷_}
 use Prim.Native.Nat.{ℕ, _<_, _≤_}
-use native.Mathlib.Nat.{le-refl}
 use native.Mathlib.Omega.{arith}
 use borrow.Author.Tests.{eq-eqb, eqb-true, leb-true, leb-false}
 use lib.Dec.{eqb, leb, lit≤}
@@ -20,20 +19,20 @@ use Rattle.layout.specs.declared.Edition.{Edition}
 use Rattle.layout.specs.declared.Edition.the-variants.{One, Three, Four}
 use Rattle.layout.specs.declared.Named.{Named}
 use Rattle.layout.specs.declared.Named.the-variants.{Known, Unknown}
-use Rattle.layout.specs.Editions.{editionOf, lengthOf, lastOf}
+use Rattle.layout.specs.Editions.{editionOf, lastOf}
 use Rattle.layout.specs.Page.{page, element, columns, startOf, textOf, textsOf, mayBeBlank, legalText, legal}
-use Rattle.layout.proofs.Beyond.{last-above, text-none}
+use Rattle.layout.proofs.Beyond.{text-none}
 use Rattle.layout.proofs.Elements.{last-below}
 use Rattle.layout.proofs.RecordLaws.{shortest, same-record}
 use Rattle.checking.specs.Check.{column}
 use Rattle.checking.specs.Acceptable.{Acceptable}
 use Rattle.checking.proofs.Placed.{column-at}
-use Rattle.hemispheres.specs.Digits.{isFirst, crosses}
-use Rattle.recasting.specs.Meaning.{senseOf, senseNumber, sameSense}
+use Rattle.hemispheres.specs.Digits.{crosses}
+use Rattle.recasting.specs.Meaning.{senseOf, senseNumber}
 use Rattle.recasting.specs.Recast.{keeps, lostText, lostAt, digitOf, recastRecord}
 use Rattle.recasting.specs.Lost.{Lost}
 use Rattle.recasting.proofs.PlaceLaws.{one-column}
-use Rattle.recasting.proofs.ResultLaws.{Plain, result, result-long, as-it-was}
+use Rattle.recasting.proofs.ResultLaws.{result, result-long, as-it-was}
 use Rattle.recasting.proofs.ColumnLaws as Columns
 use Rattle.recasting.proofs.NeverLaws as Never
 use Rattle.recasting.proofs.Demand3Accepted.{version-text}

@@ -3,32 +3,30 @@ use mathlib.Core.Path.{_≡_, refl, sym, ap, _∙_}
 use mathlib.Core.Logic.{_⊎_, inl, inr, _↔_, ⊎-elim}
 use mathlib.Core.Bool.{Bool, true, false, cond, not, _&&_, _||_, true≢false}
 use mathlib.Core.List.{List, [], _∷_}
-use Prim.Native.Nat.{ℕ, _+_, _<_, _≤_}
-use native.Mathlib.Omega.{arith}
+use Prim.Native.Nat.{ℕ, _+_, _≤_}
 use borrow.Author.Tests.{eqb-true, eq-eqb, leb-true, leb-false}
-use lib.Dec.{eqb, leb, lit≤}
+use lib.Dec.{eqb, leb}
 use lib.IntN.{ℤ}
 use Rattle.text.specs.Bytes.{every, blank, number}
 use Rattle.text.specs.Texts.{among, allows}
-use Rattle.text.proofs.Ways.{and-first, and-second}
+use Rattle.text.proofs.Ways.{and-first}
 use Rattle.text.proofs.Among.{either-half, among-cases, at-number}
 use Rattle.layout.specs.declared.Edition.{Edition}
 use Rattle.layout.specs.declared.Edition.the-variants.{One, Three, Four}
-use Rattle.layout.specs.Editions.{lengthOf, lastOf}
+use Rattle.layout.specs.Editions.{lastOf}
 use Rattle.layout.specs.Page.{textOf, textsOf, mayBeBlank, legal}
 use Rattle.layout.proofs.Beyond.{text-none, legal-none}
 use Rattle.ties.specs.Ties.{there}
 use Rattle.checking.specs.Acceptable.{Acceptable}
 use Rattle.reading.specs.declared.Place.{Place}
-use Rattle.reading.specs.declared.Reading.{Reading}
 use Rattle.reading.specs.declared.Reading.the-variants.{Missing, At}
-use Rattle.reading.specs.Readings.{signed, south, west, east, placeOf, temperature, lead, itemOf, readingOf}
+use Rattle.reading.specs.Readings.{south, west, placeOf, temperature, lead, itemOf}
 use Rattle.hemispheres.specs.Digits.{crosses}
 use Rattle.hemispheres.proofs.Demand3Digits.{Found, same-numbers}
 use Rattle.recasting.specs.declared.Sense.{Sense}
 use Rattle.recasting.specs.declared.Sense.the-variants.{Alike}
 use Rattle.recasting.specs.Meaning.{senseOf, senseNumber, sameSense, withoutDigit, shares, Meaning, reads, says, meaningOf}
-use Rattle.recasting.specs.Recast.{keeps, lostText, lostAt, recastRecord}
+use Rattle.recasting.specs.Recast.{keeps, lostText, lostAt}
 use Rattle.recasting.specs.Lost.{Expressible, Lost}
 use Rattle.recasting.proofs.SenseLaws.{same-sense}
 use Rattle.recasting.proofs.ResultLaws.{Plain, result, result-long, result-beyond, as-it-was, lost-blank, new-blank}

@@ -2,10 +2,9 @@
 -- refused call changes no byte and has an empty loss set; an outcome and a buffer fit exactly where they are the ones answered. Assumes nothing.
 use mathlib.Core.Path.{_≡_, refl, sym, ap, _∙_}
 use mathlib.Core.Logic.{_⊎_, _↔_}
-use mathlib.Core.Bool.{Bool, true, false, cond, true≢false}
+use mathlib.Core.Bool.{Bool, true, false, true≢false}
 use mathlib.Core.List.{List, [], _∷_, _++_}
 use Prim.Native.Nat.{ℕ, _+_, _<_, _≤_}
-use native.Mathlib.Omega.{arith}
 use borrow.Author.Tests.{ne-eqb, eqb-true, le-leb, lt-leb, leb-true, leb-false}
 use lib.Dec.{eqb, leb}
 use lib.ListN.{length, take, drop}
@@ -18,7 +17,7 @@ use Rattle.layout.specs.declared.Edition.{Edition}
 use Rattle.layout.specs.declared.Named.{Named}
 use Rattle.layout.specs.declared.Named.the-variants.{Known, Unknown}
 use Rattle.layout.specs.declared.Refusal.{Refusal}
-use Rattle.layout.specs.declared.Refusal.the-variants.{Unheld, Room, NoDigit}
+use Rattle.layout.specs.declared.Refusal.the-variants.{Room}
 use Rattle.layout.specs.Editions.{asked, lengthOf}
 use Rattle.layout.specs.Page.{textOf}
 use Rattle.ties.specs.Ties.{there}
@@ -34,10 +33,10 @@ use Rattle.hemispheres.proofs.Demand3Digits.{digit-found}
 use Rattle.recasting.specs.declared.Outcome.{Outcome}
 use Rattle.recasting.specs.declared.Outcome.the-variants.{Done, Unrecast}
 use Rattle.recasting.specs.Meaning.{meaningOf}
-use Rattle.recasting.specs.Recast.{lostAt, hemisphere, digitOf, recastRecord, recastIn, recastTo, recastAfter, recastOf, filledBy, leftTo, leftAfter, leftOf, outcomeNumber, outcomeLosses}
+use Rattle.recasting.specs.Recast.{lostAt, hemisphere, digitOf, recastRecord, recastIn, recastTo, recastAfter, recastOf, filledBy, leftTo, leftAfter, leftOf, outcomeLosses}
 use Rattle.recasting.specs.Lost.{Expressible}
-use Rattle.recasting.specs.Fits.{suitsPlace, Lowest, HasDigit, Recasts, Names, Fits, refused, unheld, digitless, cramped, recast}
-use Rattle.recasting.proofs.ResultLaws.{result, result-long, result-text}
+use Rattle.recasting.specs.Fits.{suitsPlace, Names, Fits, refused, unheld, digitless, cramped, recast}
+use Rattle.recasting.proofs.ResultLaws.{result-long}
 use Rattle.recasting.proofs.ColumnLaws as Columns
 use Rattle.recasting.proofs.NeverLaws as Never
 use Rattle.recasting.proofs.FitLaws.{found-lowest, has-digit, result-fits, only-record}

@@ -1,32 +1,29 @@
 -- The recast record is the only one that fits: element by element its text is determined. Assumes nothing.
 use mathlib.Core.Path.{_≡_, refl, sym, ap, _∙_}
-use mathlib.Core.Logic.{_⊎_, inl, inr, _↔_, ⊎-elim}
-use mathlib.Core.Bool.{Bool, true, false, not, _&&_, true≢false}
+use mathlib.Core.Logic.{_⊎_, ⊎-elim}
+use mathlib.Core.Bool.{Bool, true, false, true≢false}
 use mathlib.Core.List.{List, [], _∷_}
-use Prim.Native.Nat.{ℕ, _+_, _<_, _≤_}
-use native.Mathlib.Nat.{eq-or-lt-of-le}
+use Prim.Native.Nat.{ℕ, _+_, _≤_}
 use native.Mathlib.Omega.{arith}
 use borrow.Author.Tests.{eqb-true, leb-true, leb-false}
-use lib.Dec.{eqb, leb, lit≤}
+use lib.Dec.{eqb, leb}
 use lib.ListN.{length}
-use Rattle.text.specs.Bytes.{blank, number}
+use Rattle.text.specs.Bytes.{blank}
 use Rattle.numerals.proofs.Backs.{blanks-back}
 use Rattle.layout.specs.declared.Edition.{Edition}
-use Rattle.layout.specs.Editions.{lengthOf, lastOf}
+use Rattle.layout.specs.Editions.{lastOf}
 use Rattle.layout.specs.Page.{widthOf, textOf}
 use Rattle.layout.proofs.Elements.{last-below}
 use Rattle.layout.proofs.RecordLaws.{text-long, same-record}
-use Rattle.text.proofs.Ways.{and-first, and-second}
 use Rattle.checking.specs.Acceptable.{Acceptable}
-use Rattle.hemispheres.specs.Digits.{samePlace, keepsTie, mayStand, suits, crosses}
-use Rattle.hemispheres.proofs.Demand3Digits.{Found}
+use Rattle.hemispheres.specs.Digits.{suits, crosses}
 use Rattle.recasting.specs.Recast.{lostText, lostAt, recastRecord}
-use Rattle.recasting.specs.Lost.{Expressible, Lost}
-use Rattle.recasting.specs.Fits.{suitsPlace, Lowest, Column12, stays, moves, HasDigit, unmoved, some, Recasts}
+use Rattle.recasting.specs.Lost.{Expressible}
+use Rattle.recasting.specs.Fits.{Lowest, Column12, stays, moves, HasDigit, unmoved, some, Recasts}
 use Rattle.recasting.proofs.ResultLaws.{result, result-long, as-it-was, lost-blank}
 use Rattle.recasting.proofs.ColumnLaws as Columns
 use Rattle.recasting.proofs.Demand3Accepted.{version-text}
-use Rattle.recasting.proofs.Demand3Meaning.{lost-exactly, expressible, held-here, blank-stays, not-lost-filled}
+use Rattle.recasting.proofs.Demand3Meaning.{lost-exactly, expressible, held-here, blank-stays}
 
 -- two blank texts of one length are equal
 two-blanks : (n : ℕ) (s t : List ℕ) → length s ≡ n → length t ≡ n → blank s ≡ true → blank t ≡ true → s ≡ t

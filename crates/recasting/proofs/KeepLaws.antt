@@ -1,9 +1,9 @@
 -- What each way through the tests of one element says: in which sense its text is taken, whether it is kept, whether it is lost. Assumes nothing.
 use mathlib.Core.Path.{_≡_, refl, sym, ap, _∙_}
-use mathlib.Core.Bool.{Bool, true, false, cond, not, _&&_, _||_, true≢false}
+use mathlib.Core.Bool.{Bool, true, false, not, _&&_, _||_}
 use mathlib.Core.List.{List}
 use Prim.Native.Nat.{ℕ}
-use borrow.Author.Tests.{eq-eqb, ne-eqb, eqb-true}
+use borrow.Author.Tests.{eq-eqb, ne-eqb}
 use lib.Dec.{eqb}
 use Rattle.text.specs.Bytes.{blank, number}
 use Rattle.text.specs.Texts.{allows}
@@ -12,7 +12,6 @@ use Rattle.text.proofs.Among.{neither-first, neither-second}
 use Rattle.layout.specs.declared.Edition.{Edition}
 use Rattle.layout.specs.Letters.{lettered}
 use Rattle.layout.specs.Page.{textsOf, mayBeBlank, legalText}
-use Rattle.ties.specs.Ties.{there}
 use Rattle.recasting.specs.declared.Sense.{Sense}
 use Rattle.recasting.specs.declared.Sense.the-variants.{Alike}
 use Rattle.recasting.specs.Meaning.{sourceSense, platformSense, countrySense, hasSenses, senseOf, senseNumber, sameSense}

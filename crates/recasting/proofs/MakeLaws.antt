@@ -6,15 +6,15 @@ use mathlib.Core.Logic.{_⊎_, inl, inr, ⊎-elim}
 use Prim.Native.Nat.{ℕ, _+_, _<_, _≤_}
 use native.Mathlib.Nat.{eq-or-lt-of-le}
 use native.Mathlib.Omega.{arith}
-use borrow.Author.Tests.{eqb-true, eqb-false, ne-eqb, leb-true, leb-false}
-use lib.Dec.{eqb, leb, lit≤}
-use lib.ListN.{length, getD, take, drop, set, length-set}
-use lib.Seq.{take-all, take-set-le, drop-set-lt, getD-set-same, getD-set-other, length-take-le}
+use borrow.Author.Tests.{eqb-true, eqb-false, leb-true, leb-false}
+use lib.Dec.{eqb, leb}
+use lib.ListN.{length, take, drop, set, length-set}
+use lib.Seq.{take-all, take-set-le, drop-set-lt, getD-set-same, getD-set-other}
 use Rattle.losses.specs.Losses.{lossesOf}
 use Rattle.losses.specs.declared.Losses.{Losses}
 use Rattle.layout.specs.declared.Edition.{Edition}
-use Rattle.layout.specs.declared.Edition.the-variants.{One, Three, Four}
-use Rattle.layout.specs.Editions.{lengthOf, lastOf}
+use Rattle.layout.specs.declared.Edition.the-variants.{Four}
+use Rattle.layout.specs.Editions.{lengthOf}
 use Rattle.layout.specs.Page.{page, element, columns, widthOf, startOf, textOf, legalText}
 use Rattle.layout.specs.Records.{rowFrom, recordFrom}
 use Rattle.layout.proofs.Beyond.{text-past, width-past}
@@ -24,7 +24,7 @@ use Rattle.checking.specs.declared.Answer.the-variants.{Accepted}
 use Rattle.checking.specs.Check.{checked}
 use Rattle.checking.specs.Acceptable.{Acceptable}
 use Rattle.checking.proofs.Demand2Acceptance.{accepted-exactly}
-use Rattle.recasting.specs.Recast.{lostText, lostAt, hemisphere, digitOf, blanks, widened, recastText, recastRow, blankedText, blankedRow}
+use Rattle.recasting.specs.Recast.{lostAt, hemisphere, digitOf, blanks, widened, recastText, recastRow, blankedText, blankedRow}
 use Rattle.recasting.proofs.PlaceLaws.{one-column}
 use Rattle.recasting.proofs.WidenLaws.{blanks-long, copied, widened-long, same-lost, same-names, all-legal}
 

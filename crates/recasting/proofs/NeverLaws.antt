@@ -1,11 +1,11 @@
 -- Elements that are never lost: all editions have the same texts for them, and take them in one sense. Assumes nothing.
-use mathlib.Core.Path.{_≡_, refl, sym, _∙_}
-use mathlib.Core.Bool.{Bool, true, false, _||_, not, _&&_, true≢false}
+use mathlib.Core.Path.{_≡_, refl}
+use mathlib.Core.Bool.{Bool, true, false, not, _&&_}
 use mathlib.Core.Logic.{⊎-elim}
 use mathlib.Core.List.{List}
 use Prim.Native.Nat.{ℕ, _≤_}
 use native.Mathlib.Omega.{arith}
-use lib.Dec.{eqb, lit≤}
+use lib.Dec.{lit≤}
 use Rattle.text.specs.Bytes.{blank}
 use Rattle.text.specs.Texts.{among}
 use Rattle.text.specs.declared.Texts.the-variants.{Within, Either, OneOf}
@@ -14,7 +14,6 @@ use Rattle.layout.specs.declared.Edition.{Edition}
 use Rattle.layout.specs.Page.{page, element, textOf}
 use Rattle.layout.proofs.Beyond.{last-above}
 use Rattle.checking.specs.Acceptable.{Acceptable}
-use Rattle.reading.specs.Readings.{lead}
 use Rattle.recasting.specs.Meaning.{shares}
 use Rattle.recasting.specs.Recast.{keeps, lostText, lostAt}
 use Rattle.recasting.proofs.ResultLaws.{Plain, result, never-lost, as-it-was}

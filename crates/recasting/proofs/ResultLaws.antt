@@ -1,24 +1,23 @@
 -- The texts of the recast record: where an element is kept it is what it was, where it is lost it is blank. Assumes nothing.
 use mathlib.Core.Path.{_≡_, refl, sym, ap, _∙_}
-use mathlib.Core.Bool.{Bool, true, false, cond, not, _&&_, _||_}
-use mathlib.Core.List.{List, [], _∷_}
+use mathlib.Core.Bool.{Bool, true, false}
+use mathlib.Core.List.{List, []}
 use Prim.Native.Nat.{ℕ, _<_, _≤_}
 use native.Mathlib.Omega.{arith}
 use borrow.Author.Tests.{leb-true, leb-false}
 use lib.Dec.{eqb, leb}
 use lib.ListN.{length}
 use Rattle.text.specs.Bytes.{every, blank}
-use Rattle.text.specs.Texts.{allows}
 use Rattle.text.specs.declared.Texts.{Texts}
 use Rattle.layout.specs.declared.Edition.{Edition}
 use Rattle.layout.specs.Editions.{lengthOf, lastOf}
-use Rattle.layout.specs.Page.{element, widthOf, textOf, textsOf, mayBeBlank, legalText, legal}
+use Rattle.layout.specs.Page.{element, widthOf, textOf, legal}
 use Rattle.layout.proofs.Beyond.{last-above, text-none}
 use Rattle.layout.proofs.Elements.{in-each}
 use Rattle.layout.proofs.RecordLaws.{record-long, record-text}
 use Rattle.checking.specs.Acceptable.{Acceptable}
-use Rattle.recasting.specs.Meaning.{hasSenses, senseOf, sameSense}
-use Rattle.recasting.specs.Recast.{keeps, lostText, lostAt, blanks, widened, hemisphere, digitOf, recastText, recastRecord}
+use Rattle.recasting.specs.Meaning.{hasSenses}
+use Rattle.recasting.specs.Recast.{lostAt, widened, recastText, recastRecord}
 use Rattle.recasting.proofs.KeepLaws.{alike-kept}
 use Rattle.recasting.proofs.WidenLaws.{blanks-blank, own-kept, others-blank}
 use Rattle.recasting.proofs.MakeLaws.{recast-wide}

@@ -1,7 +1,7 @@
 -- The ties of the recast record: the elements that they speak of are what they were, but for column 12, and RWS may have become blank. Assumes nothing.
-use mathlib.Core.Path.{_≡_, refl, sym, ap, _∙_}
+use mathlib.Core.Path.{_≡_, refl, ap, _∙_}
 use mathlib.Core.Logic.{_⊎_, inl, inr, ⊎-elim}
-use mathlib.Core.Bool.{Bool, true, false, not, _&&_, _||_, Bool·beq, true≢false}
+use mathlib.Core.Bool.{Bool, true, false, true≢false}
 use mathlib.Core.List.{List, [], _∷_}
 use Prim.Native.Nat.{ℕ, zero, suc, _+_, _≤_}
 use native.Mathlib.Omega.{arith}
@@ -12,10 +12,9 @@ use Rattle.layout.specs.declared.Edition.{Edition}
 use Rattle.layout.specs.declared.Edition.the-variants.{One, Three, Four}
 use Rattle.layout.specs.Editions.{lastOf}
 use Rattle.layout.specs.Page.{textOf}
-use Rattle.ties.specs.Ties.{placeTie, octantTie, octantFits, signTie, digitTie, windTie, tie}
+use Rattle.ties.specs.Ties.{placeTie, octantTie, signTie, digitTie, windTie, tie}
 use Rattle.checking.specs.Acceptable.{Acceptable}
 use Rattle.hemispheres.specs.Digits.{keepsTie, crosses}
-use Rattle.hemispheres.proofs.Demand3Digits.{Found}
 use Rattle.recasting.specs.Recast.{lostAt}
 use Rattle.recasting.proofs.ResultLaws.{result, result-beyond, as-it-was, lost-blank, new-blank}
 use Rattle.recasting.proofs.NeverLaws as Never

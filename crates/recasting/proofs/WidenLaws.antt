@@ -1,23 +1,23 @@
 -- A record with blanks in the columns that it does not have: its own elements are as they were, the others are blank. Assumes nothing.
 use mathlib.Core.Path.{_≡_, refl, sym, ap, _∙_}
-use mathlib.Core.Bool.{Bool, true, false, _&&_, _||_}
+use mathlib.Core.Bool.{Bool, true, false}
 use mathlib.Core.List.{List, [], _∷_, _++_}
 use Prim.Native.Nat.{ℕ, zero, suc, _+_, _-_, _<_, _≤_}
 use native.Mathlib.Omega.{arith}
 use borrow.Author.Tests.{ne-eqb, leb-true, leb-false}
-use lib.Dec.{eqb, leb}
+use lib.Dec.{leb}
 use lib.ListN.{length, take, drop, length-append}
 use lib.Seq.{take-length, take-at, drop-append-add}
 use Rattle.text.specs.Bytes.{every, between, blank}
 use Rattle.text.proofs.Ways.{and-first, and-second}
-use Rattle.numerals.specs.Spelling.{spelled, spell, inBlanks}
+use Rattle.numerals.specs.Spelling.{spelled}
 use Rattle.numerals.proofs.Spellings.{spelled-length}
-use Rattle.losses.specs.Losses.{lossesOf, lostList}
+use Rattle.losses.specs.Losses.{lossesOf}
 use Rattle.losses.proofs.Demand3Losses.{same-losses}
 use Rattle.layout.specs.declared.Edition.{Edition}
 use Rattle.layout.specs.declared.Edition.the-variants.{One, Three, Four}
 use Rattle.layout.specs.Editions.{lengthOf, lastOf}
-use Rattle.layout.specs.Page.{widthOf, startOf, textOf, textsOf, mayBeBlank, legalText, legal}
+use Rattle.layout.specs.Page.{widthOf, startOf, textOf, legalText, legal}
 use Rattle.layout.proofs.Beyond.{last-above, text-none}
 use Rattle.layout.proofs.Columns.{start-rises, filled}
 use Rattle.layout.proofs.RecordLaws.{most, ends, part-of-front}

@@ -2,14 +2,11 @@
 use mathlib.Core.Path.{_≡_, refl, sym, ap, _∙_}
 use mathlib.Core.Bool.{Bool, true, false, _&&_, _||_}
 use mathlib.Core.List.{List}
-use Prim.Native.Nat.{ℕ, _+_, _-_, _≤_}
+use Prim.Native.Nat.{ℕ, _-_, _≤_}
 use native.Mathlib.Omega.{arith}
 use borrow.Author.Tests.{le-leb}
 use lib.Dec.{eqb, lit≤}
-use lib.ListN.{length, drop, length-drop}
-use lib.Seq.{length-take-le}
 use Rattle.text.specs.Bytes.{between, either, blank, digits, number}
-use Rattle.text.specs.declared.Texts.{Texts}
 use Rattle.text.specs.declared.Texts.the-variants.{Within, Either}
 use Rattle.text.specs.Texts.{among, allows}
 use Rattle.text.proofs.Among.{at-number, among-cases}
@@ -17,9 +14,8 @@ use Rattle.text.proofs.Ways.{and-first, and-second}
 use Rattle.numerals.specs.Spelling.{spell}
 use Rattle.layout.specs.declared.Edition.{Edition}
 use Rattle.layout.specs.declared.Edition.the-variants.{One, Three, Four}
-use Rattle.layout.specs.Editions.{lengthOf, lastOf}
-use Rattle.layout.specs.Page.{page, element, widthOf, startOf, textOf, textsOf, mayBeBlank, legal}
-use Rattle.layout.proofs.Columns.{start-next, start-rises, filled}
+use Rattle.layout.specs.Editions.{lastOf}
+use Rattle.layout.specs.Page.{page, element, widthOf, textOf, textsOf, mayBeBlank, legal}
 use Rattle.ties.specs.Ties.{tie, signTie}
 use Rattle.checking.specs.Acceptable.{Acceptable}
 use Rattle.reading.specs.declared.Reading.{Reading}

@@ -16,7 +16,7 @@ use Rattle.layout.specs.declared.Edition.{Edition}
 use Rattle.layout.specs.Editions.{lastOf}
 use Rattle.layout.specs.Page.{element, page, widthOf, textOf, textsOf, mayBeBlank, legalText, legal}
 use Rattle.layout.proofs.Beyond.{last-above, text-none}
-use Rattle.layout.proofs.Elements.{last-below}
+use Rattle.layout.proofs.Elements.{last-below, in-each}
 use Rattle.reading.specs.declared.Reading.{Reading}
 use Rattle.reading.specs.Readings.{temperature, departure, plain, placeOf, lead, itemOf, readingOf}
 use Rattle.reading.proofs.ReadingLaws.{lead-is}
@@ -26,7 +26,6 @@ use Rattle.writing.specs.Written.{writes}
 use Rattle.writing.specs.Givable.{Givable}
 use Rattle.writing.proofs.SameLaws.{same-self}
 use Rattle.writing.proofs.RecordLaws.{record-long, record-text}
-use Rattle.layout.proofs.Elements.{in-each}
 use Rattle.layout.proofs.RecordLaws.{text-long}
 use Rattle.checking.proofs.PrintLaws.{legal-prints}
 use Rattle.writing.proofs.BackLaws.{Holds, empty, holds, greatest, plain-back, departure-back}

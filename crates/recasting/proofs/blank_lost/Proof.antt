@@ -1,5 +1,5 @@
 -- `recasting::blank_lost` meets its contract. Assumes nothing.
-use Prim.Native.Nat.{ℕ, _+_, _-_, _≤_}
+use Prim.Native.Nat.{_+_, _-_, _≤_}
 use Rattle.layout.proofs.Rows.{width-at, texts-at}
 use Rattle.layout.specs.Page.{widthOf}
 use Rattle.recasting.proofs.BlankLaws.{Blanking, begins, ended, inside, short-own, legal-own, tested, turn}

@@ -2,7 +2,7 @@
 use Prim.Native.Nat.{_+_, ℕ}
 use Rattle.wording.proofs.WordingLaws.{decimal-short, number-placed}
 use borrow.Author.Needs.{needs}
-use mathlib.Core.Path.{_∙_, _≡_, ap}
+use mathlib.Core.Path.{_∙_, ap}
 use native.Mathlib.Omega.{arith}
 use Rattle.wording.proofs.put_number.Statement.{statement}
 use Rattle.wording.proofs.put_number.Tie as tie

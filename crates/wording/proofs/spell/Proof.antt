@@ -1,5 +1,5 @@
 -- `wording::spell` meets its contract: placing what is left to spell gives what placing the whole gave. Assumes nothing.
-use Prim.Native.Nat.{_%_, _<_, _≤_}
+use Prim.Native.Nat.{_≤_}
 use Rattle.numerals.proofs.Spellings.{put-end, put-turn}
 use Rattle.numerals.specs.Spelling.{placed, spelled}
 use borrow.Author.Needs.{needs}

@@ -1,6 +1,6 @@
 -- `writing::put_all` meets its contract. Assumes nothing.
 use Prim.Native.Nat.{_+_, _-_, _≤_, ℕ}
-use Rattle.reading.proofs.ReadingLaws.{lead-is}
+use Rattle.reading.proofs.ReadingLaws.{lead-is, Lead}
 use Rattle.writing.proofs.RowLaws.{row-end, row-turn, within}
 use Rattle.writing.specs.Spelled.{given, numeralFor, rowFor}
 use borrow.Author.Needs.{needs}
@@ -9,7 +9,6 @@ use mathlib.Core.List.{_++_}
 use mathlib.Core.Path.{_∙_, _≡_, ap, refl, sym}
 use native.Mathlib.Omega.{arith}
 use Rattle.layout.specs.Page.{startOf, columns}
-use Rattle.reading.proofs.ReadingLaws.{Lead}
 use Rattle.writing.proofs.put_all.Statement.{statement}
 use Rattle.writing.proofs.put_all.Tie as tie
 

@@ -1,9 +1,8 @@
 -- `layout::page::texts_of` meets its contract: an arm a letter, and the last where the letter is none of them. Assumes nothing.
-use mathlib.Core.Path.{_≡_, refl, sym, _∙_, ap}
+use mathlib.Core.Path.{_≡_, refl}
 use mathlib.Core.List.{List, [], _∷_}
 use Prim.Native.Nat.{ℕ}
 use borrow.Author.Tests.{ne-eqb}
-use Rattle.text.specs.declared.Texts.{Texts}
 use Rattle.text.specs.declared.Texts.the-variants.{Nothing}
 use Rattle.layout.specs.Letters.{Entry, alphabet, lookup, lettered}
 use Rattle.layout.proofs.page.texts_of.Statement.{statement}

@@ -39,11 +39,11 @@ pub extern "C" fn immt_recast(
     ensures { λ r. ⌜ now (buffer .exit) ≡ leftOf (now (line .entry)) edition (now (buffer .entry)) ⌝ }
 {
     let outcome = recasting::recast(line, edition, buffer);
-    let at = outcome.place();
+    let refused_at = outcome.place();
     let losses = outcome.losses();
-    let number = outcome.number();
-    *place = at;
+    let refusal = outcome.number();
+    *place = refused_at;
     *lost_low = losses.low;
     *lost_high = losses.high;
-    number
+    refusal
 }

@@ -16,3 +16,4 @@ pub mod Demand3Meaning
 pub mod Demand3Losses
 pub mod FitLaws
 pub mod Demand3Outcomes
+pub mod WorkedCases

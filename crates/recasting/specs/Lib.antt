@@ -2,3 +2,4 @@ pub mod Meaning
 pub mod Recast
 pub mod Lost
 pub mod Fits
+pub mod Cases

@@ -1,0 +1,111 @@
+-- The worked cases P1 to P12 of document 01, proved together over a single list: antt computes what the calls' own definitions answer.
+-- Assumes nothing.
+use mathlib.Core.Path.{_≡_, refl}
+use mathlib.Core.List.{List, [], _∷_, map}
+use lib.IntN.{negsuc}
+use Rattle.text.specs.First.{firstFrom}
+use Rattle.text.specs.Bytes.{every, valueFrom, run}
+use Rattle.text.specs.Texts.{allows}
+use Rattle.numerals.specs.Spelling.{spelled}
+use Rattle.losses.specs.Losses.{elements, word, lossesOf, hasLoss}
+use Rattle.layout.specs.Page.{element, page, columns, startOf, textOf, legal}
+use Rattle.layout.specs.Records.{rowFrom, recordFrom}
+use Rattle.ties.specs.Ties.{placeTie, octantFits, octantTie, signTie, lastDigit, digitTie, windTie, tie}
+use Rattle.checking.specs.Check.{column, checkedIn, checked}
+use Rattle.reading.specs.declared.Kind.the-variants.{Measured}
+use Rattle.reading.specs.declared.Reading.the-variants.{Code, Amount}
+use Rattle.reading.specs.Readings.{plain, temperature, south, west, itemOf}
+use Rattle.reading.specs.Answers.{readAfter}
+use Rattle.hemispheres.specs.Digits.{suits, lowestDigit}
+use Rattle.recasting.specs.Meaning.{platformSense, senseOf}
+use Rattle.recasting.specs.Recast.{
+  keeps,
+  lostText,
+  hemisphere,
+  widened,
+  recastText,
+  recastRecord,
+  recastIn,
+  recastTo,
+  recastAfter,
+  filledBy,
+  leftTo,
+  leftAfter,
+}
+use Rattle.recasting.specs.Cases.{
+  bytesOf,
+  at,
+  edition1,
+  edition3,
+  edition4,
+  position,
+  Case,
+  check,
+  read,
+  recast,
+  lent,
+  Result,
+  answer,
+  accepted,
+  refused,
+  is,
+  recastAs,
+}
+
+-- a case, and what it gives
+pub record Worked : Type 0 where
+  pub asked : Case
+  pub answered : Result
+
+infix 3 _gives_
+abbrev pub _gives_ : Case → Result → Worked
+c gives r = record { asked = c; answered = r }
+
+abbrev pub worked : List Worked
+worked =
+    -- P1: edition 4, `3 065 0795`, to 1: octant 8, no loss
+    (recast 1 (position "3" "065" "0795" edition4) gives recastAs [] (position "8" "065" "0795" edition1)) ∷
+    -- P2: edition 1, `3 065 0795`, to 4: quadrant 1
+    (recast 4 (position "3" "065" "0795" edition1) gives recastAs [] (position "1" "065" "0795" edition4)) ∷
+    -- P3: edition 1, octant 3, latitude 065: 0900 accepted, 0901 refusal 7 place 2
+    (check (position "3" "065" "0900" edition1) gives accepted) ∷
+    (check (position "3" "065" "0901" edition1) gives refused 7 2) ∷
+    -- P4: edition 1, `2 000 1800`, to 4: quadrant 1
+    (recast 4 (position "2" "000" "1800" edition1) gives recastAs [] (position "1" "000" "1800" edition4)) ∷
+    -- P5: sn 1: TTT 000 refusal 7 place 3; 001 is -1 tenth
+    (read 17 (at 30 "1" (at 31 "000" edition4)) gives refused 7 3) ∷
+    (read 17 (at 30 "1" (at 31 "001" edition4)) gives is (Amount (negsuc 0) Measured)) ∷
+    -- P6: PPPP 0132 is 10132; 9987 is 9987; 1000 refusal 6 place 20
+    (read 20 (at 38 "0132" edition4) gives is (Code 10132)) ∷
+    (read 20 (at 38 "9987" edition4) gives is (Code 9987)) ∷
+    (read 20 (at 38 "1000" edition4) gives refused 6 20) ∷
+    -- P7: column 1 = 4, sn 0: TTT 235 accepted, 234 refusal 7 place 7
+    (check (at 1 "4" (at 30 "0" (at 31 "235" edition4))) gives accepted) ∷
+    (check (at 1 "4" (at 30 "0" (at 31 "234" edition4))) gives refused 7 7) ∷
+    -- P8: VV 50, 56 accepted; 51, 55 refusal 6 place 11
+    (check (at 22 "50" edition4) gives accepted) ∷
+    (check (at 22 "56" edition4) gives accepted) ∷
+    (check (at 22 "51" edition4) gives refused 6 11) ∷
+    (check (at 22 "55" edition4) gives refused 6 11) ∷
+    -- P9: column 112 = 6: edition 3 refusal 6 place 66; edition 4 to 3 loses 66 only
+    (check (at 112 "6" edition3) gives refused 6 66) ∷
+    (recast 3 (at 112 "6" edition4) gives recastAs (66 ∷ []) edition3) ∷
+    -- P10: ff 12, iw blank: refusal 7 place 8
+    (check (at 28 "12" edition4) gives refused 7 8) ∷
+    -- P11: edition 3, col 71 = 4, to 4: loses 41 only
+    (recast 4 (at 71 "4" edition3) gives recastAs (41 ∷ []) edition4) ∷
+    -- P12: call sign `ABC` accepted; `AB`, `A BC` refusal 6 place 42
+    (check (at 72 "ABC" edition4) gives accepted) ∷
+    (check (at 72 "AB" edition4) gives refused 6 42) ∷
+    (check (at 72 "A BC" edition4) gives refused 6 42) ∷
+    []
+
+abbrev pub cases : List Case
+cases = map (λ w. w .asked) worked
+
+abbrev pub answers : List Result
+answers = map (λ w. w .answered) worked
+
+pub worked-cases : map answer cases ≡ answers
+unfolding answer lent at edition1 edition3 edition4 bytesOf spelled checked checkedIn column legal allows every valueFrom run textOf startOf columns element page tie firstFrom octantTie octantFits placeTie signTie digitTie lastDigit windTie readAfter itemOf plain temperature south west recastAfter recastTo recastIn lossesOf word elements hasLoss keeps lostText senseOf platformSense hemisphere lowestDigit suits leftAfter leftTo filledBy recastRecord recordFrom rowFrom recastText widened
+worked-cases = refl

@@ -1,0 +1,90 @@
+-- The worked cases of document 01: how the record of a case is made, what is asked of it, and what is answered by the calls' own definitions.
+-- Assumes nothing.
+use Prim.Native.Nat.{ℕ, _-_}
+use Prim.Native.Char.{code}
+use Prim.Native.String.{String, [] as empty, _∷_ as _then_}
+use mathlib.Core.List.{List, [], _∷_}
+use lib.ListN.{length}
+use Rattle.numerals.specs.Spelling.{placed, spelled}
+use Rattle.losses.specs.Losses.{lostList, hasLoss}
+use Rattle.checking.specs.declared.Answer.{Answer}
+use Rattle.checking.specs.Check.{checked, answerNumber, answerPlace}
+use Rattle.reading.specs.declared.Found.{Found}
+use Rattle.reading.specs.declared.Reading.{Reading}
+use Rattle.reading.specs.declared.Reading.the-variants.{Missing}
+use Rattle.reading.specs.Answers.{readOf, foundNumber, foundPlace, foundReading}
+use Rattle.recasting.specs.declared.Outcome.{Outcome}
+use Rattle.recasting.specs.Recast.{blanks, recastOf, leftOf, outcomeNumber, outcomePlace, outcomeLosses}
+
+-- the bytes of a quoted text
+unfoldable pub bytesOf : String → List ℕ
+bytesOf empty = []
+bytesOf (c then s) = code c ∷ bytesOf s
+
+-- a record with a text from column c on
+unfoldable pub at : ℕ → String → List ℕ → List ℕ
+at c t xs = placed (c - 1) (bytesOf t) xs
+
+-- a record of each edition: column 1 = 3, column 111 the edition's digit, other elements blank
+unfoldable pub edition1 : List ℕ
+edition1 = at 1 "3" (at 111 "1" (blanks 131))
+
+unfoldable pub edition3 : List ℕ
+edition3 = at 1 "3" (at 111 "3" (blanks 159))
+
+unfoldable pub edition4 : List ℕ
+edition4 = at 1 "3" (at 111 "4" (blanks 159))
+
+-- column 12, latitude and longitude, as the cases write them: `3 065 0795`
+abbrev pub position : String → String → String → List ℕ → List ℕ
+position digit latitude longitude xs = at 12 digit (at 13 latitude (at 16 longitude xs))
+
+-- a record, and what is asked of it: to check it, to read the element of that number, to recast it to the edition of that number
+pub data Case : Type 0 where
+  check : List ℕ → Case
+  read : ℕ → List ℕ → Case
+  recast : ℕ → List ℕ → Case
+
+-- the buffer that is lent to recast: 160 bytes, one more than any record has, each '.'
+unfoldable pub lent : List ℕ
+lent = spelled 1 46 160 0
+
+-- number, place, reading, the elements lost, rising, and what the lent buffer holds afterwards, empty where none is lent
+pub record Result : Type 0 where
+  pub number : ℕ
+  pub place : ℕ
+  pub reading : Reading
+  pub lost : List ℕ
+  pub buffer : List ℕ
+
+abbrev pub result : ℕ → ℕ → Reading → List ℕ → List ℕ → Result
+result n p r ls xs = record { number = n; place = p; reading = r; lost = ls; buffer = xs }
+
+abbrev pub ofAnswer : Answer → Result
+ofAnswer a = result (answerNumber a) (answerPlace a) Missing [] []
+
+abbrev pub ofFound : Found → Result
+ofFound f = result (foundNumber f) (foundPlace f) (foundReading f) [] []
+
+abbrev pub ofOutcome : Outcome → List ℕ → Result
+ofOutcome o after = result (outcomeNumber o) (outcomePlace o) Missing (lostList (hasLoss (outcomeLosses o))) after
+
+-- what the calls' own definitions answer
+unfoldable pub answer : Case → Result
+answer (check xs) = ofAnswer (checked xs)
+answer (read e xs) = ofFound (readOf xs e)
+answer (recast n xs) = ofOutcome (recastOf xs n (length lent)) (leftOf xs n lent)
+
+-- the answers that the cases name: accepted, a refusal with its place, a reading
+abbrev pub accepted : Result
+accepted = result 0 0 Missing [] []
+
+abbrev pub refused : ℕ → ℕ → Result
+refused n p = result n p Missing [] []
+
+abbrev pub is : Reading → Result
+is r = result 0 0 r [] []
+
+-- and a loss of just these elements, with that record at the front of the lent buffer
+abbrev pub recastAs : List ℕ → List ℕ → Result
+recastAs ls xs = result 0 0 Missing ls (placed 0 xs lent)

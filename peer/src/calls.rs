@@ -1,0 +1,289 @@
+//! Trial calls answered in bulk over pipes, so that another implementation can answer the same stream and the two
+//! streams of answers can be compared byte for byte.
+//!
+//! One request a line, its fields parted by one blank:
+//!
+//! | Request | Call |
+//! |---|---|
+//! | `c RECORD` | check |
+//! | `r ELEMENT RECORD` | read one element |
+//! | `s RECORD` | show the call sign |
+//! | `t EDITION ROOM RECORD` | recast to an edition into a lent buffer of so many bytes |
+//! | `w EDITION ROOM READINGS` | write from 101 readings into a lent buffer of so many bytes |
+//!
+//! EDITION and ELEMENT are whole numbers from 0 to 2^64 - 1 in decimal, ROOM one from 0 to 4096. RECORD is the bytes in
+//! hexadecimal, two lower-case digits each, or `-` where there is none. READINGS are fields of the form `ELEMENT=READING`
+//! for the elements that are not missing, or `-` where all are; a reading is `cVALUE` (code), `tVALUE` (text),
+//! `aVALUE:KIND` (amount; KIND is `m` measured, `c` computed, `im` iced measured, `ic` iced computed) or
+//! `pLATITUDE:LONGITUDE:DIGIT` (place).
+//!
+//! One answer a line, always six parts parted by one blank:
+//!
+//! `NUMBER PLACE LOW HIGH BUFFER READING`
+//!
+//! NUMBER and PLACE are decimal, LOW and HIGH the two words of the loss set as 16 hexadecimal digits each. READING is
+//! `missing`, `code V`, `text V`, `amount V measured` (or `computed`, `iced measured`, `iced computed`) or `place LATITUDE LONGITUDE DIGIT`.
+//! BUFFER is `-` but for three calls. For `t` and `w` it is the memory after the call in hexadecimal: the lent ROOM bytes and 16
+//! guard bytes beyond them, byte I (from 0) of both having been 128 + I mod 128 before the call. For `s` it is the bytes
+//! shown (`-` where none), and PLACE is then the column where they begin in the caller's own record (0 where none);
+//! NUMBER, LOW and HIGH are 0. A request that is none of these is answered with `?`.
+
+use std::io::{self, BufRead, Write};
+
+use crate::layout::ELEMENTS;
+use crate::reading::{Kind, Place, Reading};
+use crate::report::{put_number, put_reading};
+use crate::Answer;
+
+const GUARD: usize = 16;
+const MOST_ROOM: usize = 4096;
+
+/// One trial call.
+#[derive(Clone, PartialEq, Debug)]
+pub enum Call {
+    Check(Vec<u8>),
+    Read(u64, Vec<u8>),
+    Show(Vec<u8>),
+    Recast(u64, usize, Vec<u8>),
+    Write(u64, usize, Box<[Reading; ELEMENTS]>),
+}
+
+fn put_bytes(output: &mut Vec<u8>, bytes: &[u8]) {
+    const DIGITS: &[u8; 16] = b"0123456789abcdef";
+    if bytes.is_empty() {
+        output.push(b'-');
+    }
+    for &byte in bytes {
+        output.push(DIGITS[usize::from(byte >> 4)]);
+        output.push(DIGITS[usize::from(byte & 15)]);
+    }
+}
+
+fn put_word(output: &mut Vec<u8>, word: u64) {
+    put_bytes(output, &word.to_be_bytes());
+}
+
+fn bytes_of(field: &str) -> Option<Vec<u8>> {
+    if field == "-" {
+        return Some(Vec::new());
+    }
+    let digit = |byte: u8| match byte {
+        b'0'..=b'9' => Some(byte - b'0'),
+        b'a'..=b'f' => Some(byte - b'a' + 10),
+        _ => None,
+    };
+    if field.is_empty() || !field.len().is_multiple_of(2) {
+        return None;
+    }
+    field.as_bytes().chunks(2).map(|pair| Some(digit(pair[0])? << 4 | digit(pair[1])?)).collect()
+}
+
+/// A whole number without a plus, which the standard parser would take.
+fn number_of(field: &str) -> Option<u64> {
+    if !field.bytes().all(|byte| byte.is_ascii_digit()) {
+        return None;
+    }
+    field.parse().ok()
+}
+
+fn signed_of(field: &str) -> Option<i64> {
+    if field.starts_with('+') {
+        return None;
+    }
+    field.parse().ok()
+}
+
+fn room_of(field: &str) -> Option<usize> {
+    number_of(field).filter(|&room| room <= MOST_ROOM as u64).map(|room| room as usize)
+}
+
+fn reading_of(field: &str) -> Option<Reading> {
+    let rest = field.get(1..)?;
+    match field.as_bytes()[0] {
+        b'c' => Some(Reading::Code(number_of(rest)?)),
+        b't' => Some(Reading::Text(number_of(rest)?)),
+        b'a' => {
+            let (value, kind) = rest.split_once(':')?;
+            let kind = match kind {
+                "m" => Kind::Measured,
+                "c" => Kind::Computed,
+                "im" => Kind::IcedMeasured,
+                "ic" => Kind::IcedComputed,
+                _ => return None,
+            };
+            Some(Reading::Amount(signed_of(value)?, kind))
+        }
+        b'p' => {
+            let (latitude, rest) = rest.split_once(':')?;
+            let (longitude, digit) = rest.split_once(':')?;
+            Some(Reading::Place(Place {
+                latitude: signed_of(latitude)?,
+                longitude: number_of(longitude)?,
+                digit: number_of(digit)?,
+            }))
+        }
+        _ => None,
+    }
+}
+
+fn readings_of<'a>(fields: impl Iterator<Item = &'a str>) -> Option<Box<[Reading; ELEMENTS]>> {
+    let mut readings = Box::new([Reading::Missing; ELEMENTS]);
+    for field in fields {
+        if field == "-" {
+            continue;
+        }
+        let (element, reading) = field.split_once('=')?;
+        let element = number_of(element).filter(|element| (1..=ELEMENTS as u64).contains(element))?;
+        readings[element as usize - 1] = reading_of(reading)?;
+    }
+    Some(readings)
+}
+
+impl Call {
+    /// The call that a line asks for.
+    pub fn of_line(line: &str) -> Option<Call> {
+        let mut fields = line.split(' ');
+        let call = match fields.next()? {
+            "c" => Call::Check(bytes_of(fields.next()?)?),
+            "r" => Call::Read(number_of(fields.next()?)?, bytes_of(fields.next()?)?),
+            "s" => Call::Show(bytes_of(fields.next()?)?),
+            "t" => Call::Recast(number_of(fields.next()?)?, room_of(fields.next()?)?, bytes_of(fields.next()?)?),
+            "w" => {
+                let edition = number_of(fields.next()?)?;
+                let room = room_of(fields.next()?)?;
+                Call::Write(edition, room, readings_of(fields.by_ref())?)
+            }
+            _ => return None,
+        };
+        fields.next().is_none().then_some(call)
+    }
+
+    /// The line that asks for this call, with its line end.
+    pub fn put_line(&self, output: &mut Vec<u8>) {
+        let numbers = |output: &mut Vec<u8>, letter: u8, numbers: &[u64]| {
+            output.push(letter);
+            for &number in numbers {
+                output.push(b' ');
+                put_number(output, number);
+            }
+            output.push(b' ');
+        };
+        match self {
+            Call::Check(record) => {
+                numbers(output, b'c', &[]);
+                put_bytes(output, record);
+            }
+            Call::Read(element, record) => {
+                numbers(output, b'r', &[*element]);
+                put_bytes(output, record);
+            }
+            Call::Show(record) => {
+                numbers(output, b's', &[]);
+                put_bytes(output, record);
+            }
+            Call::Recast(edition, room, record) => {
+                numbers(output, b't', &[*edition, *room as u64]);
+                put_bytes(output, record);
+            }
+            Call::Write(edition, room, readings) => {
+                numbers(output, b'w', &[*edition, *room as u64]);
+                let mut fields = Vec::new();
+                for (index, reading) in readings.iter().enumerate() {
+                    let element = index + 1;
+                    match *reading {
+                        Reading::Missing => {}
+                        Reading::Code(value) => fields.push(format!("{element}=c{value}")),
+                        Reading::Text(value) => fields.push(format!("{element}=t{value}")),
+                        Reading::Amount(value, kind) => {
+                            let kind = match kind {
+                                Kind::Measured => "m",
+                                Kind::Computed => "c",
+                                Kind::IcedMeasured => "im",
+                                Kind::IcedComputed => "ic",
+                            };
+                            fields.push(format!("{element}=a{value}:{kind}"));
+                        }
+                        Reading::Place(Place { latitude, longitude, digit }) => {
+                            fields.push(format!("{element}=p{latitude}:{longitude}:{digit}"));
+                        }
+                    }
+                }
+                if fields.is_empty() {
+                    fields.push("-".to_string());
+                }
+                output.extend_from_slice(fields.join(" ").as_bytes());
+            }
+        }
+        output.push(b'\n');
+    }
+
+    /// Makes the call and appends its answer, with a line end.
+    pub fn put_answer(&self, output: &mut Vec<u8>) {
+        match self {
+            Call::Check(record) => put_answer(output, crate::check(record), &[]),
+            Call::Read(element, record) => put_answer(output, crate::read(record, *element), &[]),
+            Call::Show(record) => {
+                let shown = crate::show_call_sign(record);
+                let place = match shown.is_empty() {
+                    true => 0,
+                    // Where the part begins in the caller's own bytes, which a copy would not.
+                    false => (shown.as_ptr() as usize).wrapping_sub(record.as_ptr() as usize) as u64 + 1,
+                };
+                put_answer(output, Answer { place, ..Answer::done() }, shown);
+            }
+            Call::Recast(edition, room, record) => {
+                let mut memory = memory(*room);
+                let answer = crate::recast(record, *edition, &mut memory[..*room]);
+                put_answer(output, answer, &memory);
+            }
+            Call::Write(edition, room, readings) => {
+                let mut memory = memory(*room);
+                let answer = crate::write(*edition, readings, &mut memory[..*room]);
+                put_answer(output, answer, &memory);
+            }
+        }
+    }
+}
+
+/// A lent buffer with its guard, filled with bytes that no record holds and that tell their position.
+fn memory(room: usize) -> Vec<u8> {
+    (0..room + GUARD).map(|index| 128 + (index % 128) as u8).collect()
+}
+
+fn put_answer(output: &mut Vec<u8>, answer: Answer, buffer: &[u8]) {
+    put_number(output, answer.number);
+    output.push(b' ');
+    put_number(output, answer.place);
+    output.push(b' ');
+    put_word(output, answer.lost[0]);
+    output.push(b' ');
+    put_word(output, answer.lost[1]);
+    output.push(b' ');
+    put_bytes(output, buffer);
+    output.push(b' ');
+    put_reading(output, answer.reading);
+    output.push(b'\n');
+}
+
+/// Answers every request of the input.
+pub fn serve(input: &mut impl BufRead, sink: &mut impl Write) -> io::Result<()> {
+    let mut line = Vec::new();
+    let mut output = Vec::new();
+    loop {
+        line.clear();
+        if input.read_until(b'\n', &mut line)? == 0 {
+            break;
+        }
+        let request = line.strip_suffix(b"\n").unwrap_or(&line);
+        match std::str::from_utf8(request).ok().and_then(Call::of_line) {
+            Some(call) => call.put_answer(&mut output),
+            None => output.extend_from_slice(b"?\n"),
+        }
+        if output.len() >= 1 << 16 {
+            sink.write_all(&output)?;
+            output.clear();
+        }
+    }
+    sink.write_all(&output)?;
+    sink.flush()
+}

@@ -1,0 +1,250 @@
+//! The quick passes against the plain rules, and the calls against one another.
+
+use peer::calls::Call;
+use peer::layout::{span, Edition, LONGEST};
+use peer::plain;
+use peer::recasting::plain_recast;
+use peer::report::all_readings;
+use peer::trial::{self, Chance, Family, Limits};
+use peer::{check, quick, recast, write, Answer};
+
+fn agree(record: &[u8]) {
+    let answer = plain::check(record);
+    let edition = quick::accepted(record);
+    assert_eq!(answer.number == 0, edition.is_some(), "{:?}", String::from_utf8_lossy(record));
+    assert_eq!(answer, check(record));
+    if let Some(edition) = edition {
+        assert_eq!(edition.digit(), record[110]);
+    }
+}
+
+#[test]
+fn checks_agree_on_every_family() {
+    let limits = Limits::new();
+    for (index, (name, family)) in Family::ALL.into_iter().enumerate() {
+        let mut chance = Chance::new(100 + index as u64);
+        let mut accepted = 0;
+        for _ in 0..30_000 {
+            let record = trial::record(&mut chance, &limits, family);
+            agree(&record);
+            accepted += usize::from(check(&record).number == 0);
+        }
+        // A family of which nothing or everything passes would try little.
+        match family {
+            Family::Typical => assert_eq!(accepted, 30_000),
+            _ => assert!((100..29_000).contains(&accepted), "{name}: {accepted} accepted"),
+        }
+    }
+}
+
+#[test]
+fn checks_agree_on_every_byte_of_every_column() {
+    let limits = Limits::new();
+    let mut chance = Chance::new(7);
+    for edition in Edition::ALL {
+        for eighths in [0, 4, 8] {
+            let whole = trial::typical(&mut chance, &limits, edition, eighths);
+            for column in 0..whole.len() {
+                let mut record = whole.clone();
+                for byte in 0..=255 {
+                    record[column] = byte;
+                    agree(&record);
+                }
+            }
+        }
+    }
+}
+
+#[test]
+fn checks_agree_on_every_number_of_every_element() {
+    let limits = Limits::new();
+    let mut chance = Chance::new(8);
+    for edition in Edition::ALL {
+        for eighths in [0, 8] {
+            let whole = trial::typical(&mut chance, &limits, edition, eighths);
+            for element in 1..=edition.last_element() {
+                let width = span(element).len();
+                if width > 4 {
+                    continue;
+                }
+                let mut record = whole.clone();
+                for value in 0..10u32.pow(width as u32) {
+                    let text = format!("{value:0width$}");
+                    record[span(element)].copy_from_slice(text.as_bytes());
+                    agree(&record);
+                }
+            }
+        }
+    }
+}
+
+#[test]
+fn recasts_agree() {
+    let limits = Limits::new();
+    let mut chance = Chance::new(9);
+    for _ in 0..60_000 {
+        let family = if chance.one_in(3) { Family::Mixed } else { Family::Typical };
+        let record = trial::record(&mut chance, &limits, family);
+        let edition = chance.pick(&[1, 1, 3, 3, 4, 4, 0, 2, 5, 260]);
+        let room = chance.pick(&[0, 130, 131, 158, 159, 160, 159, 159]);
+        let mut quick = vec![200; room];
+        let mut slow = vec![200; room];
+        let answer = recast(&record, edition, &mut quick);
+        assert_eq!(answer, plain_recast(&record, edition, &mut slow));
+        assert_eq!(quick, slow);
+        if answer.number == 0 {
+            let length = Edition::from_number(edition).unwrap().length();
+            assert_eq!(check(&quick[..length]).number, 0);
+            assert!(quick[length..].iter().all(|&byte| byte == 200));
+            assert_eq!(
+                answer.lost_elements().count() as u32,
+                answer.lost[0].count_ones() + answer.lost[1].count_ones()
+            );
+        } else {
+            assert!(quick.iter().all(|&byte| byte == 200));
+            assert_eq!(answer.lost, [0, 0]);
+        }
+    }
+}
+
+/// Every element that can be lost between two editions is lost in some trial, and no other.
+#[test]
+fn losses_are_all_tried() {
+    let expected = |from, to| -> Vec<u64> {
+        match (from, to) {
+            (1, 3) => vec![43],
+            (1, 4) => vec![40, 41, 43],
+            (3, 1) => [43].into_iter().chain(86..=101).collect(),
+            (3, 4) => vec![40, 41],
+            (4, 1) => [40, 41, 43, 64].into_iter().chain(66..=101).collect(),
+            (4, 3) => [40, 41, 64].into_iter().chain(66..=86).chain(94..=101).collect(),
+            _ => vec![],
+        }
+    };
+    let limits = Limits::new();
+    let mut chance = Chance::new(14);
+    for from in Edition::ALL {
+        let mut lost = [[0; 2]; 5];
+        for _ in 0..5_000 {
+            let record = trial::typical(&mut chance, &limits, from, 7);
+            for to in [1, 3, 4] {
+                let answer = recast(&record, to, &mut [0; LONGEST]);
+                lost[to as usize][0] |= answer.lost[0];
+                lost[to as usize][1] |= answer.lost[1];
+            }
+        }
+        for to in [1, 3, 4] {
+            let answer = Answer { lost: lost[to as usize], ..Answer::done() };
+            assert_eq!(answer.lost_elements().collect::<Vec<_>>(), expected(from.number(), to));
+        }
+    }
+}
+
+#[test]
+fn places_agree_on_every_longitude() {
+    for (from, digits) in [(Edition::One, &b"01235678"[..]), (Edition::Three, b"1357"), (Edition::Four, b"1357")] {
+        let mut record = vec![b' '; from.length()];
+        record[0] = b'3';
+        record[110] = from.digit();
+        for &digit in digits {
+            for latitude in [0, 1, 10, 100, 900] {
+                for longitude in 0..=1801 {
+                    record[11..19].copy_from_slice(format!("{}{latitude:03}{longitude:04}", digit as char).as_bytes());
+                    for to in [1, 3, 4] {
+                        let mut quick = [0; LONGEST];
+                        let mut slow = [0; LONGEST];
+                        let answer = recast(&record, to, &mut quick);
+                        assert_eq!(answer, plain_recast(&record, to, &mut slow));
+                        assert_eq!(quick, slow);
+                        // Every place of one edition has a digit in the others.
+                        assert!(matches!(answer.number, 0 | 6 | 7));
+                    }
+                }
+            }
+        }
+    }
+}
+
+#[test]
+fn a_record_is_written_from_its_own_readings() {
+    let limits = Limits::new();
+    let mut chance = Chance::new(10);
+    for _ in 0..20_000 {
+        let record = trial::record(&mut chance, &limits, Family::Typical);
+        let mut buffer = [0; LONGEST];
+        let answer = write(u64::from(record[110] - b'0'), &all_readings(&record), &mut buffer);
+        assert_eq!(answer.number, 0);
+        assert!(buffer[..record.len()] == record[..]);
+    }
+}
+
+#[test]
+fn what_is_written_reads_as_what_was_given() {
+    let limits = Limits::new();
+    let mut chance = Chance::new(11);
+    let mut counts = [0; 10];
+    for _ in 0..60_000 {
+        let Call::Write(edition, room, readings) = trial::call(&mut chance, &limits, Family::Mixed) else {
+            continue;
+        };
+        let mut buffer = vec![200; room];
+        let answer = write(edition, &readings, &mut buffer);
+        counts[answer.number as usize] += 1;
+        if answer.number == 0 {
+            let length = Edition::from_number(edition).unwrap().length();
+            assert!(all_readings(&buffer[..length]) == *readings);
+            assert!(buffer[length..].iter().all(|&byte| byte == 200));
+        } else {
+            assert!(buffer.iter().all(|&byte| byte == 200));
+        }
+    }
+    for number in [0, 6, 7, 8, 9] {
+        assert!(counts[number] > 100, "refusal {number} was tried {} times", counts[number]);
+    }
+}
+
+#[test]
+fn requests_are_read_as_they_were_asked() {
+    let limits = Limits::new();
+    let mut chance = Chance::new(12);
+    for _ in 0..5_000 {
+        let call = trial::call(&mut chance, &limits, Family::Mixed);
+        let mut line = Vec::new();
+        call.put_line(&mut line);
+        let line = String::from_utf8(line).unwrap();
+        assert_eq!(Call::of_line(line.strip_suffix('\n').unwrap()).as_ref(), Some(&call));
+        let mut answer = Vec::new();
+        call.put_answer(&mut answer);
+        assert_eq!(answer.iter().filter(|&&byte| byte == b'\n').count(), 1);
+    }
+    for wrong in
+        ["", "c", "c 3", "c 3g", "c 33 33", "r 33", "r -1 33", "t 4 9999 33", "w 4", "w 4 159 102=c1", "x 33", "c  33"]
+    {
+        assert_eq!(Call::of_line(wrong), None, "{wrong}");
+    }
+}
+
+#[test]
+fn every_refusal_and_every_tie_is_tried() {
+    let limits = Limits::new();
+    let mut chance = Chance::new(13);
+    let mut numbers = [0; 8];
+    let mut elements = [0; 102];
+    let mut ties = [0; 10];
+    for _ in 0..200_000 {
+        let answer = check(&trial::record(&mut chance, &limits, Family::Mixed));
+        numbers[answer.number as usize] += 1;
+        match answer.number {
+            6 => elements[answer.place as usize] += 1,
+            7 => ties[answer.place as usize] += 1,
+            _ => {}
+        }
+    }
+    assert!(numbers.iter().all(|&count| count > 500), "{numbers:?}");
+    assert!(ties[1..].iter().all(|&count| count > 100), "{ties:?}");
+    // Elements 1 and 65 have refusals of their own, and column 81 takes whatever is printable.
+    for (element, &count) in elements.iter().enumerate().skip(1) {
+        let never = matches!(element, 1 | 44 | 65);
+        assert!(never == (count == 0), "element {element}: {count}");
+    }
+}

@@ -1,0 +1,231 @@
+//! The cases P1 to P12 of the document and the points that were settled beside it.
+
+use peer::layout::{span, LONGEST};
+use peer::{check, read, recast, show_call_sign, write, Answer, Edition, Kind, Place, Reading, ELEMENTS};
+
+/// A record of an edition with 3 in column 1, blank but for the texts at the columns.
+fn record(edition: u64, texts: &[(usize, &str)]) -> Vec<u8> {
+    let edition = Edition::from_number(edition).unwrap();
+    let mut record = vec![b' '; edition.length()];
+    record[0] = b'3';
+    record[110] = edition.digit();
+    for (column, text) in texts {
+        record[column - 1..column - 1 + text.len()].copy_from_slice(text.as_bytes());
+    }
+    record
+}
+
+fn refusal(record: &[u8]) -> (u64, u64) {
+    let answer = check(record);
+    assert_eq!(answer, Answer::refused(answer.number, answer.place));
+    (answer.number, answer.place)
+}
+
+fn recast_to(record: &[u8], edition: u64) -> (Vec<u8>, Vec<u64>) {
+    let mut buffer = vec![0; LONGEST + 1];
+    let answer = recast(record, edition, &mut buffer);
+    assert_eq!((answer.number, answer.place), (0, 0));
+    buffer.truncate(Edition::from_number(edition).unwrap().length());
+    (buffer, answer.lost_elements().collect())
+}
+
+#[test]
+fn p1_p2_p4_places() {
+    assert_eq!(recast_to(&record(4, &[(12, "30650795")]), 1), (record(1, &[(12, "80650795")]), vec![]));
+    assert_eq!(recast_to(&record(1, &[(12, "30650795")]), 4), (record(4, &[(12, "10650795")]), vec![]));
+    assert_eq!(recast_to(&record(1, &[(12, "20001800")]), 4), (record(4, &[(12, "10001800")]), vec![]));
+}
+
+#[test]
+fn p3_octants() {
+    assert_eq!(refusal(&record(1, &[(12, "30650900")])), (0, 0));
+    assert_eq!(refusal(&record(1, &[(12, "30650901")])), (7, 2));
+}
+
+#[test]
+fn p5_signs() {
+    assert_eq!(refusal(&record(4, &[(30, "1000")])), (7, 3));
+    let cold = record(4, &[(30, "1001")]);
+    assert_eq!(read(&cold, 16).reading, Reading::Amount(-1, Kind::Measured));
+    assert_eq!(read(&cold, 17).reading, Reading::Amount(-1, Kind::Measured));
+}
+
+#[test]
+fn p6_pressure() {
+    assert_eq!(read(&record(4, &[(38, "0132")]), 20).reading, Reading::Code(10132));
+    assert_eq!(read(&record(4, &[(38, "9987")]), 20).reading, Reading::Code(9987));
+    assert_eq!(refusal(&record(4, &[(38, "1000")])), (6, 20));
+}
+
+#[test]
+fn p7_halves() {
+    assert_eq!(refusal(&record(4, &[(1, "4"), (30, "0235")])), (0, 0));
+    assert_eq!(refusal(&record(4, &[(1, "4"), (30, "0234")])), (7, 7));
+}
+
+#[test]
+fn p8_visibility() {
+    for (text, expected) in [("50", (0, 0)), ("56", (0, 0)), ("51", (6, 11)), ("55", (6, 11))] {
+        assert_eq!(refusal(&record(4, &[(22, text)])), expected);
+    }
+}
+
+#[test]
+fn p9_flags() {
+    assert_eq!(refusal(&record(3, &[(112, "6")])), (6, 66));
+    assert_eq!(recast_to(&record(4, &[(112, "6")]), 3), (record(3, &[]), vec![66]));
+}
+
+#[test]
+fn p10_wind() {
+    assert_eq!(refusal(&record(4, &[(28, "12")])), (7, 8));
+}
+
+#[test]
+fn p11_platform() {
+    assert_eq!(recast_to(&record(3, &[(71, "4")]), 4), (record(4, &[]), vec![41]));
+}
+
+#[test]
+fn p12_call_sign() {
+    let named = record(4, &[(72, "ABC")]);
+    assert_eq!(refusal(&named), (0, 0));
+    assert_eq!(show_call_sign(&named), b"ABC");
+    assert_eq!(show_call_sign(&named).as_ptr(), named[71..].as_ptr());
+    assert_eq!(refusal(&record(4, &[(72, "AB")])), (6, 42));
+    assert_eq!(refusal(&record(4, &[(72, "A BC")])), (6, 42));
+    assert_eq!(show_call_sign(&record(4, &[(72, "AB")])), b"");
+    assert_eq!(show_call_sign(&record(4, &[])), b"");
+}
+
+#[test]
+fn refusals_in_order() {
+    assert_eq!(refusal(b""), (1, 0));
+    assert_eq!(refusal(&[b' '; 172]), (1, 0));
+    assert_eq!(refusal(&record(4, &[(1, "2"), (111, "2"), (159, "\u{7f}")])), (2, 159));
+    assert_eq!(refusal(&record(4, &[(1, "2"), (111, "2")])), (3, 1));
+    assert_eq!(refusal(&record(4, &[(111, "2")])), (4, 111));
+    assert_eq!(refusal(&record(4, &[(111, "1"), (20, "9")])), (5, 0));
+    assert_eq!(refusal(&record(4, &[(20, "9"), (143, "1  ")])), (6, 9));
+    assert_eq!(refusal(&record(4, &[(143, "100")])), (6, 91));
+    assert_eq!(refusal(&record(4, &[(149, "010")])), (7, 9));
+    assert_eq!(refusal(&record(4, &[(149, "010"), (28, "10"), (12, "1")])), (7, 1));
+    assert_eq!(refusal(&record(4, &[(156, "7"), (110, "A"), (132, "6")])), (0, 0));
+    assert_eq!(refusal(&record(3, &[(156, "9"), (110, "9")])), (6, 64));
+}
+
+#[test]
+fn whole_numbers() {
+    let plain = record(4, &[]);
+    for element in [0, 102, 257, (1 << 32) + 1, u64::MAX] {
+        assert_eq!(read(&plain, element), Answer::refused(11, 0));
+    }
+    assert_eq!(read(&record(1, &[]), 86), Answer::refused(11, 0));
+    assert_eq!(read(&plain, 86), Answer::done());
+    for edition in [0, 2, 5, 6, 52, 260, (1 << 32) + 4, u64::MAX] {
+        let mut buffer = [7; 200];
+        assert_eq!(recast(&plain, edition, &mut buffer), Answer::refused(8, 0));
+        assert_eq!(write(edition, &[Reading::Missing; ELEMENTS], &mut buffer), Answer::refused(8, 0));
+        assert_eq!(buffer, [7; 200]);
+    }
+}
+
+#[test]
+fn rooms() {
+    let plain = record(4, &[(70, "1")]);
+    for (edition, room, number) in [(1, 130, 9), (1, 131, 0), (3, 158, 9), (3, 159, 0), (4, 158, 9), (4, 160, 0)] {
+        let mut buffer = [7; 200];
+        let answer = recast(&plain, edition, &mut buffer[..room]);
+        assert_eq!((answer.number, answer.place), (number, 0));
+        let written = if number == 0 { Edition::from_number(edition).unwrap().length() } else { 0 };
+        assert!(buffer[written..].iter().all(|&byte| byte == 7));
+        assert!(buffer[..written].iter().all(|&byte| byte != 7));
+    }
+}
+
+fn readings(edition: u64, own: &[(usize, Reading)]) -> [Reading; ELEMENTS] {
+    let mut readings = [Reading::Missing; ELEMENTS];
+    readings[0] = Reading::Code(3);
+    readings[64] = Reading::Code(edition);
+    for &(element, reading) in own {
+        readings[element - 1] = reading;
+    }
+    readings
+}
+
+fn written(edition: u64, own: &[(usize, Reading)]) -> (u64, u64) {
+    let mut buffer = [0; LONGEST];
+    let answer = write(edition, &readings(edition, own), &mut buffer);
+    if answer.number == 0 {
+        assert_eq!(refusal(&buffer[..Edition::from_number(edition).unwrap().length()]), (0, 0));
+    }
+    (answer.number, answer.place)
+}
+
+#[test]
+fn writes() {
+    let amount = |value| Reading::Amount(value, Kind::Measured);
+    assert_eq!(written(4, &[]), (0, 0));
+    assert_eq!(written(4, &[(1, Reading::Missing)]), (6, 1));
+    assert_eq!(written(4, &[(1, Reading::Code((1 << 32) + 3))]), (6, 1));
+    assert_eq!(written(4, &[(65, Reading::Code(3))]), (6, 65));
+    assert_eq!(written(4, &[(65, Reading::Missing)]), (6, 65));
+    assert_eq!(written(1, &[(86, Reading::Code(1))]), (6, 86));
+    assert_eq!(written(1, &[(101, amount(1))]), (6, 101));
+    assert_eq!(written(4, &[(17, amount(5))]), (6, 16));
+    assert_eq!(written(4, &[(16, amount(5)), (17, amount(5))]), (0, 0));
+    assert_eq!(written(4, &[(16, amount(1000)), (17, amount(1000))]), (6, 16));
+    assert_eq!(written(4, &[(15, Reading::Code(10))]), (7, 8));
+    assert_eq!(written(4, &[(91, amount(-100))]), (6, 91));
+    assert_eq!(written(4, &[(91, amount(0))]), (0, 0));
+    assert_eq!(written(4, &[(44, Reading::Text(32))]), (6, 44));
+    assert_eq!(written(4, &[(10, Reading::Text(47))]), (0, 0));
+    assert_eq!(written(4, &[(10, Reading::Text(48))]), (6, 10));
+    assert_eq!(written(4, &[(64, Reading::Text(65))]), (0, 0));
+    assert_eq!(written(3, &[(64, Reading::Text(65))]), (6, 64));
+    let place = |latitude, longitude, digit| {
+        let place = Reading::Place(Place { latitude, longitude, digit });
+        [(6, place), (7, place), (8, place)]
+    };
+    assert_eq!(written(1, &place(650, 901, 3)), (7, 2));
+    assert_eq!(written(1, &place(-650, 901, 3)), (6, 6));
+    assert_eq!(written(1, &place(650, 2700, 1)), (0, 0));
+    assert_eq!(written(1, &place(650, 0, 0)), (0, 0));
+    assert_eq!(written(1, &place(650, 3600, 0)), (6, 6));
+    assert_eq!(written(4, &place(0, 1800, 5)), (0, 0));
+    assert_eq!(written(4, &place(0, 1799, 5)), (6, 6));
+    assert_eq!(written(4, &place(0, 1799, 2)), (6, 6));
+    assert_eq!(written(4, &place(650, 1799, 1)[..2]), (6, 6));
+    assert_eq!(written(4, &place(650, 1799, 1)[1..]), (6, 6));
+}
+
+#[test]
+fn every_place_is_recast_to_the_same_place() {
+    let latitudes = [0, 1, 450, 899, 900];
+    let longitudes = [0, 1, 899, 900, 901, 1799, 1800];
+    for (from, digits) in [(1, &b"01235678"[..]), (3, b"1357"), (4, b"1357")] {
+        for &digit in digits {
+            for latitude in latitudes {
+                for longitude in longitudes {
+                    let text = format!("{}{latitude:03}{longitude:04}", digit as char);
+                    let first = record(from, &[(12, &text)]);
+                    if refusal(&first) != (0, 0) {
+                        assert_eq!(refusal(&first), (7, 2));
+                        continue;
+                    }
+                    for to in [1, 3, 4] {
+                        let (second, lost) = recast_to(&first, to);
+                        assert!(lost.is_empty());
+                        assert_eq!(refusal(&second), (0, 0));
+                        assert_eq!(second[span(7).start..span(8).end], first[span(7).start..span(8).end]);
+                        let of = |record: &[u8]| match read(record, 6).reading {
+                            Reading::Place(place) => (place.latitude, place.longitude),
+                            other => panic!("{other:?}"),
+                        };
+                        assert_eq!(of(&first), of(&second));
+                    }
+                }
+            }
+        }
+    }
+}

@@ -1,0 +1,206 @@
+//! Times ours and the peer's on the same records, in turn, and prints nanoseconds a record and their ratio.
+//!
+//!     bench calls                                     check and recast, as calls
+//!     bench input RECORDS DAMAGED                     an input of the recast report; one in DAMAGED records has a wrong column (0: none)
+//!     bench report RECORDS DAMAGED INPUT PEER LOADER LIBRARIES OURS     the two programs over that input, processor time
+
+use std::fs::File;
+use std::hint::black_box;
+use std::io::{self, BufWriter, Write};
+use std::process::{Command, ExitCode, Stdio};
+use std::time::Instant;
+
+use peer::layout::Edition;
+use peer::trial::{self, Chance, Limits};
+
+extern "C" {
+    fn immt_check(record: *const u8, length: usize, place: *mut u64) -> u64;
+    fn immt_recast(
+        record: *const u8,
+        length: usize,
+        edition: u64,
+        buffer: *mut u8,
+        room: usize,
+        place: *mut u64,
+        lost_low: *mut u64,
+        lost_high: *mut u64,
+    ) -> u64;
+}
+
+/// What a call answers: number, place and the two words of the losses.
+type Numbers = (u64, u64, u64, u64);
+
+fn our_check(record: &[u8]) -> Numbers {
+    let mut place = 0;
+    // The slice is readable for its length, and the place is a number of our own.
+    let number = unsafe { immt_check(record.as_ptr(), record.len(), &mut place) };
+    (number, place, 0, 0)
+}
+
+fn our_recast(record: &[u8], edition: u64, buffer: &mut [u8]) -> Numbers {
+    let (mut place, mut low, mut high) = (0, 0, 0);
+    // The slices do not overlap: one is shared and the other is not.
+    let number = unsafe {
+        immt_recast(record.as_ptr(), record.len(), edition, buffer.as_mut_ptr(), buffer.len(), &mut place, &mut low, &mut high)
+    };
+    (number, place, low, high)
+}
+
+fn their_check(record: &[u8]) -> Numbers {
+    let answer = peer::check(record);
+    (answer.number, answer.place, 0, 0)
+}
+
+fn their_recast(record: &[u8], edition: u64, buffer: &mut [u8]) -> Numbers {
+    let answer = peer::recast(record, edition, buffer);
+    (answer.number, answer.place, answer.lost[0], answer.lost[1])
+}
+
+/// Records of an edition as a ship fills them; one in `damaged` has a wrong column.
+fn records(chance: &mut Chance, limits: &Limits, edition: Edition, count: usize, damaged: usize) -> Vec<Vec<u8>> {
+    (0..count)
+        .map(|_| {
+            let mut record = trial::typical(chance, limits, edition, 6);
+            if damaged != 0 && chance.one_in(damaged) {
+                let column = chance.below(record.len());
+                record[column] = b'?';
+            }
+            record
+        })
+        .collect()
+}
+
+/// The best of many rounds over the records, in nanoseconds for one of them.
+fn round(records: &[Vec<u8>], run: &mut dyn FnMut(&[u8]) -> Numbers) -> f64 {
+    let start = Instant::now();
+    for record in records {
+        black_box(run(black_box(record)));
+    }
+    start.elapsed().as_nanos() as f64 / records.len() as f64
+}
+
+/// Both on the same records, in turn, so that what else the machine does falls on both.
+fn compare(name: &str, records: &[Vec<u8>], ours: &mut dyn FnMut(&[u8]) -> Numbers, theirs: &mut dyn FnMut(&[u8]) -> Numbers) {
+    for record in records {
+        assert_eq!(ours(record), theirs(record), "the two differ");
+    }
+    let (mut our_best, mut their_best) = (f64::INFINITY, f64::INFINITY);
+    for _ in 0..300 {
+        our_best = our_best.min(round(records, ours));
+        their_best = their_best.min(round(records, theirs));
+    }
+    println!("{name}: ours {our_best:.0} ns, peer {their_best:.0} ns, ratio {:.1}", our_best / their_best);
+}
+
+fn calls() {
+    const COUNT: usize = 1000;
+    let limits = Limits::new();
+    for (word, damaged) in [("accepted", 0), ("one in ten damaged", 10)] {
+        let mut chance = Chance::new(1);
+        for edition in Edition::ALL {
+            let records = records(&mut chance, &limits, edition, COUNT, damaged);
+            compare(&format!("check, edition {}, {word}", edition.number()), &records, &mut our_check, &mut their_check);
+            for to in [1, 3, 4] {
+                let (mut a, mut b) = ([0u8; 160], [0u8; 160]);
+                compare(
+                    &format!("recast {} to {to}, {word}", edition.number()),
+                    &records,
+                    &mut |record| our_recast(record, to, &mut a),
+                    &mut |record| their_recast(record, to, &mut b),
+                );
+            }
+        }
+    }
+}
+
+/// An input of the recast report to edition 4, records of all editions in turn.
+fn input(count: usize, damaged: usize) -> io::Result<()> {
+    let limits = Limits::new();
+    let mut chance = Chance::new(2);
+    let mut sink = BufWriter::with_capacity(1 << 16, io::stdout().lock());
+    sink.write_all(b"4\n")?;
+    for index in 0..count {
+        let edition = Edition::ALL[index % 3];
+        for record in records(&mut chance, &limits, edition, 1, damaged) {
+            sink.write_all(&record)?;
+            sink.write_all(b"\n")?;
+        }
+    }
+    sink.flush()
+}
+
+#[repr(C)]
+struct Usage {
+    user: [i64; 2],
+    system: [i64; 2],
+    rest: [i64; 14],
+}
+
+extern "C" {
+    fn getrusage(who: i32, usage: *mut Usage) -> i32;
+}
+
+/// The processor time of all children so far, in nanoseconds.
+fn children() -> f64 {
+    const CHILDREN: i32 = -1;
+    let mut usage = Usage { user: [0; 2], system: [0; 2], rest: [0; 14] };
+    // The structure is as large as the one that the C library fills.
+    unsafe { getrusage(CHILDREN, &mut usage) };
+    let seconds = |time: [i64; 2]| time[0] as f64 * 1e9 + time[1] as f64 * 1e3;
+    seconds(usage.user) + seconds(usage.system)
+}
+
+/// What the command prints for the input, and its processor time.
+fn timed(command: &mut Command, input: &str) -> io::Result<(Vec<u8>, f64)> {
+    let before = children();
+    let output = command.stdin(File::open(input)?).stdout(Stdio::piped()).stderr(Stdio::inherit()).output()?;
+    Ok((output.stdout, children() - before))
+}
+
+fn report(arguments: &[String]) -> io::Result<bool> {
+    let [count, damaged, input, their_program, loader, libraries, our_program] = arguments else {
+        return Ok(false);
+    };
+    let Ok(count) = count.parse::<f64>() else {
+        return Ok(false);
+    };
+    let (mut our_best, mut their_best) = (f64::INFINITY, f64::INFINITY);
+    for _ in 0..5 {
+        let (ours, time) = timed(Command::new(loader).arg("--library-path").arg(libraries).arg(our_program), input)?;
+        our_best = our_best.min(time / count);
+        let (theirs, time) = timed(Command::new(their_program).arg("report"), input)?;
+        their_best = their_best.min(time / count);
+        if ours != theirs {
+            println!("the two reports differ");
+            return Ok(false);
+        }
+    }
+    let word = if damaged == "0" { "accepted" } else { "one in ten damaged" };
+    println!("report of {count} records, {word}: ours {our_best:.0} ns, peer {their_best:.0} ns a record, ratio {:.1}", our_best / their_best);
+    Ok(true)
+}
+
+fn main() -> ExitCode {
+    let arguments: Vec<String> = std::env::args().skip(1).collect();
+    let number = |index: usize| arguments.get(index).and_then(|word| word.parse().ok());
+    let outcome = match arguments.first().map(String::as_str) {
+        Some("calls") => {
+            calls();
+            Ok(true)
+        }
+        Some("input") => match (number(1), number(2)) {
+            (Some(count), Some(damaged)) => input(count, damaged).map(|()| true),
+            _ => Ok(false),
+        },
+        Some("report") => report(&arguments[1..]),
+        _ => Ok(false),
+    };
+    match outcome {
+        Ok(true) => ExitCode::SUCCESS,
+        Ok(false) => ExitCode::FAILURE,
+        Err(error) => {
+            eprintln!("bench: {error}");
+            ExitCode::FAILURE
+        }
+    }
+}

@@ -1,0 +1,83 @@
+-- `report_run::feed_all` meets its contract: some of the piece is taken at each turn, so the loop ends. Assumes nothing.
+use Prim.Native.Nat.{ℕ, _-_, _≤_}
+use borrow.Author.Needs.{needs}
+use lib.ListN.{drop, length, length-drop, take}
+use lib.Seq.{length-take-le}
+use mathlib.Core.List.{List}
+use mathlib.Core.Path.{_∙_, _≡_, sym}
+use native.Mathlib.Nat.{le-refl}
+use native.Mathlib.Omega.{arith}
+use Rattle.report_run.proofs.feed_all.Statement.{statement}
+use Rattle.report_run.proofs.feed_all.Tie as tie
+
+abbrev Inv-loop : tie.InvT-loop
+Inv-loop piece out₀ now₀ at₀ out now at = (at ≤ length piece) × (length out ≡ length out₀)
+
+abbrev μ-loop : tie.MeasureT-loop
+μ-loop piece out₀ now₀ at₀ out now at = length piece - at
+
+-- what is left of the piece
+rest : (xs : List ℕ) (at : ℕ) → length (take (length xs - at) (drop at xs)) ≡ length xs - at
+rest xs at = length-take-le (length xs - at) (drop at xs) (omega (arith, length-drop at xs))
+
+loop-holds : tie.Need-loop-holds Inv-loop μ-loop
+loop-holds c = search needs
+
+sub-feed : tie.Need-sub-feed Inv-loop μ-loop
+sub-feed c = search needs
+
+part-feed-start : tie.Need-part-feed-start Inv-loop μ-loop
+part-feed-start c = c .before .loop .inv .0
+
+part-feed-end : tie.Need-part-feed-end Inv-loop μ-loop
+part-feed-end c = le-refl _
+
+feed-requires : tie.Need-feed-requires Inv-loop μ-loop
+feed-requires c κs = search needs
+
+slice-reshare-prefix-write-all : tie.Need-slice-reshare-prefix-write-all Inv-loop μ-loop
+slice-reshare-prefix-write-all c = omega (arith, c .before .before .before .feed .ensures .room, c .before .before .before .feed .kept .1 .1 .0)
+
+slice-aggregate-write-all : tie.Need-slice-aggregate-write-all Inv-loop μ-loop
+slice-aggregate-write-all c = sym (length-take-le _ _ (omega (arith, c .before .before .before .before .feed .ensures .room, c .before .before .before .before .feed .kept .1 .1 .0)))
+
+write-all-requires : tie.Need-write-all-requires Inv-loop μ-loop
+write-all-requires c κs = search needs
+
+add-at : tie.Need-add-at Inv-loop μ-loop
+add-at c = omega (arith, c .before .before .before .before .before .feed .ensures .within, rest (c .before .before .before .before .before .before .before .before .before .before .before .before .args .piece .now) (c .before .before .before .before .before .before .before .before .before .loop .at))
+
+loop-less : tie.Need-loop-less Inv-loop μ-loop
+loop-less c =
+    let f = c .before .before .before .before .before .feed .ensures in
+    let left = rest (c .before .before .before .before .before .before .before .before .before .before .before .before .args .piece .now) (c .before .before .before .before .before .before .before .before .before .loop .at) in
+    omega (arith, f .within, f .moves (omega arith) (omega arith))
+
+loop-again : tie.Need-loop-again Inv-loop μ-loop
+loop-again c = (omega (arith, c .before .before .before .before .before .feed .ensures .within, rest (c .before .before .before .before .before .before .before .before .before .before .before .before .args .piece .now) (c .before .before .before .before .before .before .before .before .before .loop .at)), c .before .before .before .before .before .feed .kept .1 .1 .0 ∙ c .before .before .before .before .before .before .before .before .before .loop .inv .1)
+
+same-length : tie.Need-same-length Inv-loop μ-loop
+same-length c = c .before .loop .inv .1
+
+returns : tie.Need-returns Inv-loop μ-loop
+returns c = search needs
+
+pub feed-all-spec : {M : Type 1} → statement M
+feed-all-spec =
+    tie.close
+    (tie.spec
+    Inv-loop
+    μ-loop
+    loop-holds
+    sub-feed
+    part-feed-start
+    part-feed-end
+    feed-requires
+    slice-reshare-prefix-write-all
+    slice-aggregate-write-all
+    write-all-requires
+    add-at
+    loop-less
+    loop-again
+    same-length
+    returns)

@@ -1,0 +1,79 @@
+-- What a line leads to, by the stage that it finds. Assumes nothing.
+use mathlib.Core.Path.{_≡_, sym, ap, _∙_}
+use mathlib.Core.List.{List}
+use Prim.Native.Nat.{ℕ, _+_, _<_, _≤_}
+use native.Mathlib.Omega.{arith}
+use borrow.Author.Tests.{lt-ltb, le-ltb, eq-eqb, ne-eqb}
+use lib.ListN.{length, getD, take}
+use Rattle.layout.specs.declared.Edition.{Edition}
+use Rattle.layout.specs.declared.Named.{Named}
+use Rattle.layout.specs.declared.Named.the-variants.{Unknown}
+use Rattle.layout.specs.Editions.{editionOf}
+use Rattle.recasting.specs.declared.Outcome.{Outcome}
+use Rattle.reporting.specs.declared.Stage.{Stage}
+use Rattle.reporting.specs.declared.Stage.the-variants.{Waiting, Closed, Recasting}
+use Rattle.reporting.specs.declared.Ledger.{Ledger}
+use Rattle.reporting.specs.declared.Told.{Told}
+use Rattle.reporting.specs.Report.{askedBy, outcomeOf, recordLine}
+use Rattle.reporting.specs.Run.{ledger, oneMore, opened, opening, refusedAfter, ledgerAfter, saidOf, lastIn, lastOf}
+use Rattle.reporting.specs.Puts.{Puts, Tells}
+use Rattle.reporting.proofs.CutLaws.{said-cut, ledger-cut}
+use Rattle.reporting.proofs.PutLaws.{nothing}
+
+abbrev told : Ledger → ℕ → Told
+told l end = record { ledger = l; end = end }
+
+-- a count below the last, and the last
+module _ (n : ℕ) where
+  pub more : n < 18446744073709551615 → n + 1 ≡ oneMore n
+  unfolding oneMore
+  more h = rw (lt-ltb n 18446744073709551615 h)
+
+  pub no-more : 18446744073709551615 ≤ n → n ≡ oneMore n
+  unfolding oneMore
+  no-more h = rw (le-ltb n 18446744073709551615 h)
+
+-- the first line is one byte that names an edition, or asks for none that is held
+module _ (line : List ℕ) where
+  pub asks-none : (length line ≡ 1 → ⊥) → Unknown ≡ askedBy line
+  unfolding askedBy
+  asks-none h = rw (ne-eqb (length line) 1 h)
+
+  pub asks : length line ≡ 1 → editionOf (getD line 0 0) ≡ askedBy line
+  unfolding askedBy
+  asks h = rw (eq-eqb (length line) 1 h)
+
+module _ (line : List ℕ) (n m : ℕ) {at : ℕ} {before after : List ℕ} {end : ℕ} where
+  pub first-tells : (w : Named) → w ≡ askedBy line → Puts (opening w) at before after end → end ≤ at + 512 →
+      Tells (ledger Waiting n m) line at before after (told (ledger (opened w) n m) end)
+  unfolding ledgerAfter saidOf
+  first-tells w e p h = record { next = ap (λ (v : Named). ledger (opened v) n m) e; said = rw (← e) p; short = h }
+
+  pub record-tells : (edition : Edition) (count : ℕ) (o : Outcome) (k : ℕ) → count ≡ oneMore n → o ≡ outcomeOf edition line → k ≡ refusedAfter o m →
+      Puts (recordLine count o) at before after end → end ≤ at + 512 →
+      Tells (ledger (Recasting edition) n m) line at before after (told (ledger (Recasting edition) count k) end)
+  unfolding ledgerAfter saidOf
+  record-tells edition count o k e f g p h = record {
+    next = ap (λ (i : ℕ). ledger (Recasting edition) i k) e ∙ ap (ledger (Recasting edition) (oneMore n)) (g ∙ ap (λ (q : Outcome). refusedAfter q m) f);
+    said = rw (← e, ← f) p;
+    short = h;
+  }
+
+-- a ledger by its stage
+module _ (l : Ledger) (s : Stage) (e : l .stage ≡ s) {line : List ℕ} {at : ℕ} {before after : List ℕ} {r : Told} where
+  pub stage-tells : Tells (ledger s (l .records) (l .refused)) line at before after r → Tells l line at before after r
+  stage-tells t = rw (← e) at t
+
+pub closed-tells : (l : Ledger) (line : List ℕ) (at : ℕ) (before : List ℕ) → l .stage ≡ Closed → Tells l line at before before (told l at)
+unfolding ledgerAfter saidOf
+closed-tells l line at before e = record { next = rw e; said = rw e (nothing at before); short = omega arith }
+
+-- a line and its first 160 bytes
+pub cut-tells : (l : Ledger) (line : List ℕ) {at : ℕ} {before after : List ℕ} {r : Told} → Tells l line at before after r → Tells l (take 160 line) at before after r
+cut-tells l line t = record { next = t .next ∙ sym (ledger-cut l line); said = rw (said-cut l line) (t .said); short = t .short }
+
+-- what is said last, by the stage
+pub stage-last : (l : Ledger) (s : Stage) → l .stage ≡ s → {at : ℕ} {before after : List ℕ} {end : ℕ} →
+    Puts (lastIn s (l .records) (l .refused)) at before after end → Puts (lastOf l) at before after end
+unfolding lastOf
+stage-last l s e p = rw e p

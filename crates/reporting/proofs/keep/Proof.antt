@@ -1,0 +1,81 @@
+-- `reporting::keep` meets its contract: what is held is what was held and the bytes passed. Assumes nothing.
+use Prim.Native.Nat.{ℕ, _+_, _-_, _≤_}
+use Rattle.reporting.proofs.KeepLaws.{keep-end, keep-turn}
+use borrow.Author.Needs.{needs}
+use lib.ListN.{length, length-set, take}
+use mathlib.Core.List.{_++_, append-nil}
+use native.Mathlib.Nat.{add-zero}
+use mathlib.Core.Path.{_∙_, _≡_, ap, refl, sym}
+use native.Mathlib.Omega.{arith}
+use Rattle.reporting.proofs.keep.Statement.{statement}
+use Rattle.reporting.proofs.keep.Tie as tie
+
+abbrev Inv-loop : tie.InvT-loop
+Inv-loop held₀ count bytes n i₀ held i = (i ≤ n) × ((length held ≡ length held₀) × (take (count + i) held ≡ take count held₀ ++ take i bytes))
+
+abbrev μ-loop : tie.MeasureT-loop
+μ-loop held₀ count bytes n i₀ held i = n - i
+
+sub-least : tie.Need-sub-least Inv-loop μ-loop
+sub-least c = search needs
+
+least-requires : tie.Need-least-requires Inv-loop μ-loop
+least-requires c κs = search needs
+
+loop-holds : tie.Need-loop-holds Inv-loop μ-loop
+loop-holds c = (omega arith, (refl, rw (add-zero, append-nil)))
+
+shared-slice-read-held : tie.Need-shared-slice-read-held Inv-loop μ-loop
+shared-slice-read-held c = omega (arith, c .before .before .before .least .ensures)
+
+add-held : tie.Need-add-held Inv-loop μ-loop
+add-held c = omega (arith, c .before .before .before .least .ensures)
+
+slice-write-held : tie.Need-slice-write-held Inv-loop μ-loop
+slice-write-held c = omega (arith, c .before .before .before .least .ensures)
+
+add-i : tie.Need-add-i Inv-loop μ-loop
+add-i c = search needs
+
+loop-less : tie.Need-loop-less Inv-loop μ-loop
+loop-less c = search needs
+
+loop-again : tie.Need-loop-again Inv-loop μ-loop
+loop-again c =
+    let l = c .before .before .loop in
+    let a = c .before .before .before .before .before .before .args in
+    let n = c .before .before .before .least .ensures in
+    (omega arith, (simp length-set (l .inv .1 .0), keep-turn (take (a .count) (a .held .now)) (a .bytes .now) (l .held) (a .count) (l .i) (l .inv .1 .1) (omega arith) (omega arith)))
+
+add-result : tie.Need-add-result Inv-loop μ-loop
+add-result c = omega (arith, c .before .before .least .ensures)
+
+same-length : tie.Need-same-length Inv-loop μ-loop
+same-length c = c .before .loop .inv .1 .0
+
+returns : tie.Need-returns Inv-loop μ-loop
+returns c =
+    let l = c .before .loop in
+    let a = c .before .before .before .before .before .args in
+    let n = c .before .before .least .ensures in
+    let all : l .i ≡ c .before .before .least .result = omega arith in
+    (omega arith, ap (λ (k : ℕ). take (a .count + k) (l .held)) (sym all) ∙ l .inv .1 .1 ∙ ap (λ (k : ℕ). take (a .count) (a .held .now) ++ take k (a .bytes .now)) all ∙ keep-end (a .held .now) (a .bytes .now) (a .count) _ (c .before .before .before .before .before .pre .0) (c .before .before .before .before .before .pre .1) n)
+
+pub keep-spec : {M : Type 1} → statement M
+keep-spec =
+    tie.close
+    (tie.spec
+    Inv-loop
+    μ-loop
+    sub-least
+    least-requires
+    loop-holds
+    shared-slice-read-held
+    add-held
+    slice-write-held
+    add-i
+    loop-less
+    loop-again
+    add-result
+    same-length
+    returns)

@@ -1,0 +1,46 @@
+-- `reporting::words::put_heading` meets its contract. Assumes nothing.
+use Rattle.reporting.proofs.PutLaws.{also, puts, renamed}
+use Rattle.reporting.specs.Report.{heading, numbered, recastTo}
+use mathlib.Core.Path.{ap}
+use native.Mathlib.Omega.{arith}
+use borrow.Author.Needs.{needs}
+use Rattle.reporting.proofs.words.put_heading.Statement.{statement}
+use Rattle.reporting.proofs.words.put_heading.Tie as tie
+
+slice-aggregate-put-numbered : tie.Need-slice-aggregate-put-numbered
+slice-aggregate-put-numbered c = search needs
+
+number-of-requires : tie.Need-number-of-requires
+number-of-requires c κs = search needs
+
+put-numbered-requires : tie.Need-put-numbered-requires
+put-numbered-requires c κs = search needs
+
+slice-aggregate-put-text : tie.Need-slice-aggregate-put-text
+slice-aggregate-put-text c = search needs
+
+put-text-requires : tie.Need-put-text-requires
+put-text-requires c κs = search needs
+
+same-length : tie.Need-same-length
+same-length c = search needs
+
+returns : tie.Need-returns
+unfolding heading
+returns c =
+    let number = c .before .before .before .before .before .before .before .put-numbered .ensures .0 in
+    let end = puts (c .before .before .put-text .ensures) in
+    let said = ap (numbered recastTo) (c .before .before .before .before .before .before .before .before .number-of .ensures) in
+    (also (renamed said number) end (omega arith), omega arith)
+
+pub put-heading-spec : {M : Type 1} → statement M
+put-heading-spec =
+    tie.close
+    (tie.spec
+    slice-aggregate-put-numbered
+    number-of-requires
+    put-numbered-requires
+    slice-aggregate-put-text
+    put-text-requires
+    same-length
+    returns)

@@ -1,0 +1,49 @@
+-- `reporting::words::put_totals` meets its contract. Assumes nothing.
+use Rattle.reporting.proofs.PutLaws.{also, puts}
+use Rattle.reporting.specs.Report.{totals}
+use native.Mathlib.Omega.{arith}
+use borrow.Author.Needs.{needs}
+use Rattle.reporting.proofs.words.put_totals.Statement.{statement}
+use Rattle.reporting.proofs.words.put_totals.Tie as tie
+
+slice-aggregate-put-numbered : tie.Need-slice-aggregate-put-numbered
+slice-aggregate-put-numbered c = search needs
+
+put-numbered-requires : tie.Need-put-numbered-requires
+put-numbered-requires c κs = search needs
+
+slice-aggregate-put-numbered-2 : tie.Need-slice-aggregate-put-numbered-2
+slice-aggregate-put-numbered-2 c = search needs
+
+put-numbered-requires-2 : tie.Need-put-numbered-requires-2
+put-numbered-requires-2 c κs = search needs
+
+slice-aggregate-put-text : tie.Need-slice-aggregate-put-text
+slice-aggregate-put-text c = search needs
+
+put-text-requires : tie.Need-put-text-requires
+put-text-requires c κs = search needs
+
+same-length : tie.Need-same-length
+same-length c = search needs
+
+returns : tie.Need-returns
+unfolding totals
+returns c =
+    let all = c .before .before .before .before .before .before .before .before .before .before .before .before .put-numbered .ensures .0 in
+    let some = c .before .before .before .before .before .before .before .put-numbered2 .ensures .0 in
+    let end = puts (c .before .before .put-text .ensures) in
+    (also (also all some (omega arith)) end (omega arith), omega arith)
+
+pub put-totals-spec : {M : Type 1} → statement M
+put-totals-spec =
+    tie.close
+    (tie.spec
+    slice-aggregate-put-numbered
+    put-numbered-requires
+    slice-aggregate-put-numbered-2
+    put-numbered-requires-2
+    slice-aggregate-put-text
+    put-text-requires
+    same-length
+    returns)

@@ -1,0 +1,38 @@
+-- What the functions that write say of the lent buffer, and the contracts of the run. Assumes nothing.
+use Prim.Native.Nat.{ℕ, _+_, _<_, _≤_}
+use mathlib.Core.Path.{_≡_}
+use mathlib.Core.List.{List}
+use lib.ListN.{length, take}
+use Rattle.numerals.specs.Spelling.{placed}
+use Rattle.reporting.specs.declared.Ledger.{Ledger}
+use Rattle.reporting.specs.declared.Told.{Told}
+use Rattle.reporting.specs.declared.Run.{Run}
+use Rattle.reporting.specs.declared.Fed.{Fed}
+use Rattle.reporting.specs.Run.{ledgerAfter, saidOf, stateAfter, saidBy, closing, view}
+
+-- a text is put: it stands from `at` on, whatever else the buffer held is as it was before, and `end` is the place after the text
+pub record Puts (text : List ℕ) (at : ℕ) (before after : List ℕ) (end : ℕ) : Type 0 where
+  pub stands : after ≡ placed at text before
+  pub ends : end ≡ at + length text
+
+-- a line is told: the ledger after it, and what is said of it
+pub record Tells (l : Ledger) (line : List ℕ) (at : ℕ) (before after : List ℕ) (r : Told) : Type 0 where
+  pub next : r .ledger ≡ ledgerAfter l line
+  pub said : Puts (saidOf l line) at before after (r .end)
+  pub short : r .end ≤ at + 512
+
+-- some of a piece is taken, from its front on, and what is said of it stands at the front of the buffer; it is all of the piece unless fewer than 512
+-- bytes of the buffer are left, and some of it where there was room for a line at all
+pub record Feeds (run : Run) (piece before after : List ℕ) (r : Fed) : Type 0 where
+  pub within : r .taken ≤ length piece
+  pub room : r .written ≤ length before
+  pub state : view (r .run) ≡ stateAfter (view run) (take (r .taken) piece)
+  pub said : Puts (saidBy (view run) (take (r .taken) piece)) 0 before after (r .written)
+  pub stops : r .taken < length piece → length before < r .written + 512
+  pub moves : 512 ≤ length before → 0 < length piece → 0 < r .taken
+
+-- the end is told, where the buffer has room for it, and else nothing is written
+pub record Finishes (run : Run) (before after : List ℕ) (r : ℕ) : Type 0 where
+  pub room : r ≤ length before
+  pub said : 1024 ≤ length before → Puts (closing (view run)) 0 before after r
+  pub unsaid : length before < 1024 → (r ≡ 0) × (after ≡ before)

@@ -2,17 +2,18 @@
 use mathlib.Core.Path.{_≡_, refl, sym}
 use mathlib.Core.Bool.{Bool, true, false, cond, _&&_, _||_, true≢false}
 use mathlib.Core.List.{List, [], _∷_, _++_}
-use Prim.Native.Nat.{ℕ, zero, suc, _+_, _-_, _<_, _≤_}
+use Prim.Native.Nat.{ℕ, zero, suc, _+_, _-_, _≤_}
 use native.Mathlib.Numerals.{add-one}
 use native.Mathlib.Omega.{arith}
 use borrow.Author.Tests.{leb-true, le-leb}
 use lib.Dec.{leb}
 use lib.ListN.{length, getD, take, drop}
-use lib.Seq.{drop-cons, take-all, take-add}
+use lib.Seq.{take-all, take-add}
 use Rattle.text.specs.Bytes.{every, between, printable, isDigit, isLetter, blank, digits, number, valueFrom, run}
 use Rattle.text.specs.Texts.{isSign, digitOr, allows}
 use Rattle.text.specs.declared.Texts.{Texts}
 use Rattle.text.specs.declared.Texts.the-variants.{Nothing, Printable, Letters, CallSign, DigitOr, Within, Either, OneOf}
+use Rattle.text.proofs.Parts.{one-column}
 use Rattle.text.proofs.Ways.{and-first, and-second}
 use Rattle.layout.specs.declared.Edition.{Edition}
 use Rattle.layout.specs.declared.Edition.the-variants.{One, Three, Four}
@@ -133,9 +134,6 @@ one-digit lo hi b t f e =
     let least = leb-true lo (number (b ∷ [])) (and-first _ _ n) in
     let most = leb-true (number (b ∷ [])) hi (and-second (leb lo (number (b ∷ []))) _ n) in
     (omega arith, omega arith)
-
-one-column : (xs : List ℕ) (i : ℕ) → i < length xs → take 1 (drop i xs) ≡ getD xs i 0 ∷ []
-one-column xs i h = rw (drop-cons xs i 0 h)
 
 -- elements 1 and 65 of a record in which they are legal
 module _ (ed : Edition) (xs : List ℕ) (long : 131 ≤ length xs) where

@@ -1,6 +1,6 @@
 -- The loop over a record's elements: where it stands, what it takes out, and what its test says of `legal`. Assumes nothing.
-use mathlib.Core.Path.{_≡_, sym, ap, _∙_}
-use mathlib.Core.Bool.{Bool, _&&_, _||_}
+use mathlib.Core.Path.{_≡_, refl, sym, ap, _∙_}
+use mathlib.Core.Bool.{Bool, true, false, _&&_, _||_}
 use mathlib.Core.List.{List}
 use Prim.Native.Nat.{ℕ, _+_, _-_, _≤_}
 use native.Mathlib.Nat.{add-sub-cancel-left, min-le-left}
@@ -16,7 +16,7 @@ use Rattle.layout.specs.declared.Edition.{Edition}
 use Rattle.layout.specs.declared.Edition.the-variants.{One, Three, Four}
 use Rattle.layout.specs.Editions.{lengthOf, lastOf}
 use Rattle.layout.specs.Letters.{lettered, WidthRow, LetterRow}
-use Rattle.layout.specs.Page.{element, widthOf, startOf, textOf, textsOf, mayBeBlank, legal}
+use Rattle.layout.specs.Page.{element, widthOf, startOf, textOf, textsOf, mayBeBlank, legalText, legal}
 use Rattle.layout.proofs.Columns.{start-next, start-rises, narrow, filled}
 use Rattle.layout.proofs.Rows.{width-at, texts-at}
 
@@ -69,3 +69,14 @@ pub in-each : (ed : Edition) (e : ℕ) (s : Texts) → element e .in1 ≡ s → 
 in-each One e s p q r = p
 in-each Three e s p q r = q
 in-each Four e s p q r = r
+
+-- blanks are legal where they may stand, and what is allowed is legal
+pub blank-legal : (ed : Edition) (e : ℕ) (t : List ℕ) → mayBeBlank e ≡ true → blank t ≡ true → legalText ed e t ≡ true
+blank-legal ed e t m b = rw (m, b)
+
+pub allowed-legal : (ed : Edition) (e : ℕ) (t : List ℕ) → allows (textsOf ed e) t ≡ true → legalText ed e t ≡ true
+allowed-legal ed e t a = by (mayBeBlank e && blank t)
+  where
+    by : (x : Bool) → (x || allows (textsOf ed e) t) ≡ true
+    by true = refl
+    by false = a

@@ -5,10 +5,11 @@ use mathlib.Core.List.{List, [], _++_, append-assoc, append-nil}
 use Prim.Native.Nat.{ℕ, _+_, _-_, _<_, _≤_}
 use native.Mathlib.Nat.{add-sub-cancel-left, min-le-left}
 use native.Mathlib.Omega.{arith}
-use lib.ListN.{length, take, drop, length-append, length-take}
-use lib.Seq.{take-all, take-at, take-add, drop-at, drop-drop, length-take-le}
+use lib.ListN.{length, take, drop, length-take}
+use lib.Seq.{take-all, take-add, drop-drop}
 use Rattle.numerals.specs.Spelling.{spell, inBlanks, placed}
 use Rattle.numerals.specs.declared.Numeral.{Numeral}
+use Rattle.numerals.proofs.PlacedLaws.{placed-to, placed-behind}
 use Rattle.numerals.proofs.Spellings.{spelled-length}
 use Rattle.losses.specs.Losses.{noLosses, withLoss, lossesBelow, lossesOf}
 use Rattle.losses.specs.declared.Losses.{Losses}
@@ -20,15 +21,6 @@ use Rattle.layout.specs.Records.{rowFrom}
 use Rattle.layout.proofs.Columns.{start-next, start-below, filled, narrow}
 use Rattle.layout.proofs.RecordLaws.{first, one-more}
 use Rattle.recasting.specs.Recast.{lostText, lostAt, blanks, blankedText, blankedRow}
-
--- bytes placed in some others: what stands up to their end, and behind it
-pub placed-to : (at : ℕ) (t before : List ℕ) → at ≤ length before → take (at + length t) (placed at t before) ≡ take at before ++ t
-placed-to at t before h =
-    take-at (take at before ++ t) (drop (at + length t) before) (at + length t) (length-append (take at before) t ∙ ap (λ (k : ℕ). k + length t) (length-take-le at before h))
-
-pub placed-behind : (at : ℕ) (t before : List ℕ) → at ≤ length before → drop (at + length t) (placed at t before) ≡ drop (at + length t) before
-placed-behind at t before h =
-    drop-at (take at before ++ t) (drop (at + length t) before) (at + length t) (length-append (take at before) t ∙ ap (λ (k : ℕ). k + length t) (length-take-le at before h))
 
 -- one element, where it is lost and where it is not
 module _ (x : Bool) where

@@ -8,6 +8,7 @@ use native.Mathlib.Omega.{arith}
 use borrow.Author.Tests.{le-leb, lt-leb}
 use lib.ListN.{getD}
 use Rattle.text.specs.Bytes.{every, printable, blank, number, valueFrom}
+use Rattle.text.proofs.Parts.{one-column}
 use Rattle.layout.specs.declared.Edition.{Edition}
 use Rattle.layout.specs.declared.Edition.the-variants.{One, Three, Four}
 use Rattle.layout.specs.Page.{page, element, textOf, textsOf}
@@ -19,7 +20,7 @@ use Rattle.checking.proofs.PrintLaws.{legal-prints}
 use Rattle.hemispheres.specs.Digits.{lowestDigit, crosses}
 use Rattle.hemispheres.proofs.Demand3Digits.{Found, digit-found}
 use Rattle.recasting.specs.Recast.{hemisphere, recastText}
-use Rattle.recasting.proofs.PlaceLaws.{six, one-column}
+use Rattle.recasting.proofs.PlaceLaws.{six}
 use Rattle.recasting.proofs.ResultLaws.{result, result-text}
 
 -- a digit as a character is no blank, and says its number

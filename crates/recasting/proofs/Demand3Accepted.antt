@@ -15,6 +15,7 @@ use Rattle.layout.specs.declared.Edition.the-variants.{One, Three, Four}
 use Rattle.layout.specs.Editions.{lastOf}
 use Rattle.layout.specs.Page.{page, element, textOf, textsOf, mayBeBlank, legalText, legal}
 use Rattle.layout.proofs.Beyond.{last-above}
+use Rattle.layout.proofs.Elements.{blank-legal, allowed-legal}
 use Rattle.ties.specs.Ties.{tie}
 use Rattle.checking.specs.declared.Answer.the-variants.{Accepted}
 use Rattle.checking.specs.Check.{checked}
@@ -26,17 +27,6 @@ use Rattle.recasting.specs.Recast.{keeps, lostText, lostAt, digitOf, rec
 use Rattle.recasting.proofs.ResultLaws.{Plain, result, result-long, result-text, as-it-was, lost-blank, new-blank}
 use Rattle.recasting.proofs.ColumnLaws.{same-digits, Column, stays, moves, column}
 use Rattle.recasting.proofs.TiedLaws.{same-format, ties-kept}
-
--- blanks are legal but in elements 1 and 65; what is allowed is legal
-blank-legal : (ed : Edition) (e : ℕ) (t : List ℕ) → mayBeBlank e ≡ true → blank t ≡ true → legalText ed e t ≡ true
-blank-legal ed e t m b = rw (m, b)
-
-allowed-legal : (ed : Edition) (e : ℕ) (t : List ℕ) → allows (textsOf ed e) t ≡ true → legalText ed e t ≡ true
-allowed-legal ed e t h = by (mayBeBlank e && blank t)
-  where
-    by : (x : Bool) → (x || allows (textsOf ed e) t) ≡ true
-    by true = refl
-    by false = h
 
 -- a text that is legal in one edition and not lost is legal in the other
 kept-legal : (from to : Edition) (e : ℕ) (t : List ℕ) → Plain e → mayBeBlank e ≡ true → lostText from to e t ≡ false → legalText to e t ≡ true

@@ -15,6 +15,7 @@ use Rattle.text.proofs.Among.{either-half, among-cases}
 use Rattle.losses.specs.Losses.{noLosses, lossesOf, lostList, member, hasLoss, countOf, lowestOf, first, Rising}
 use Rattle.losses.specs.declared.Losses.{Losses}
 use Rattle.losses.proofs.Demand3Losses.{listed-exactly, not-listed, test-is-membership, rising, ones-are-length, lowest-is-head, empty-set, empty-list}
+use Rattle.text.proofs.Parts.{one-column}
 use Rattle.layout.specs.declared.Edition.{Edition}
 use Rattle.layout.specs.declared.Edition.the-variants.{One, Three, Four}
 use Rattle.layout.specs.declared.Named.{Named}
@@ -31,7 +32,6 @@ use Rattle.hemispheres.specs.Digits.{crosses}
 use Rattle.recasting.specs.Meaning.{senseOf, senseNumber}
 use Rattle.recasting.specs.Recast.{keeps, lostText, lostAt, digitOf, recastRecord}
 use Rattle.recasting.specs.Lost.{Lost}
-use Rattle.recasting.proofs.PlaceLaws.{one-column}
 use Rattle.recasting.proofs.ResultLaws.{result, result-long, as-it-was}
 use Rattle.recasting.proofs.ColumnLaws as Columns
 use Rattle.recasting.proofs.NeverLaws as Never

@@ -12,6 +12,7 @@ use lib.ListN.{length, take, drop, set, length-set}
 use lib.Seq.{take-all, take-set-le, drop-set-lt, getD-set-same, getD-set-other}
 use Rattle.losses.specs.Losses.{lossesOf}
 use Rattle.losses.specs.declared.Losses.{Losses}
+use Rattle.text.proofs.Parts.{one-column}
 use Rattle.layout.specs.declared.Edition.{Edition}
 use Rattle.layout.specs.declared.Edition.the-variants.{Four}
 use Rattle.layout.specs.Editions.{lengthOf}
@@ -25,7 +26,6 @@ use Rattle.checking.specs.Check.{checked}
 use Rattle.checking.specs.Acceptable.{Acceptable}
 use Rattle.checking.proofs.Demand2Acceptance.{accepted-exactly}
 use Rattle.recasting.specs.Recast.{lostAt, hemisphere, digitOf, blanks, widened, recastText, recastRow, blankedText, blankedRow}
-use Rattle.recasting.proofs.PlaceLaws.{one-column}
 use Rattle.recasting.proofs.WidenLaws.{blanks-long, copied, widened-long, same-lost, same-names, all-legal}
 
 -- a text of element e in columns as many as edition 4's

@@ -1,12 +1,12 @@
 -- What each way through the choice of column 12 says of `hemisphere`. Assumes nothing.
 use mathlib.Core.Path.{_≡_, refl, sym, ap, _∙_}
 use mathlib.Core.Bool.{Bool, true, false, cond, not, _&&_}
-use mathlib.Core.List.{List, [], _∷_}
-use Prim.Native.Nat.{ℕ, _<_, _≤_}
+use mathlib.Core.List.{List}
+use Prim.Native.Nat.{ℕ, _≤_}
 use native.Mathlib.Omega.{arith}
 use lib.ListN.{length, getD, take, drop}
-use lib.Seq.{drop-cons}
 use Rattle.text.specs.Bytes.{blank, number}
+use Rattle.text.proofs.Parts.{one-column}
 use Rattle.layout.specs.declared.Edition.{Edition}
 use Rattle.layout.specs.Page.{page, element, columns, startOf, textOf}
 use Rattle.hemispheres.specs.Digits.{lowestDigit, crosses}
@@ -24,10 +24,6 @@ seven xs = refl
 eight : (xs : List ℕ) → textOf 8 xs ≡ take 4 (drop 15 xs)
 unfolding textOf startOf columns element page
 eight xs = refl
-
--- one column of a record that has it
-pub one-column : (xs : List ℕ) (i : ℕ) → i < length xs → take 1 (drop i xs) ≡ getD xs i 0 ∷ []
-one-column xs i h = rw (drop-cons xs i 0 h)
 
 module _ (from to : Edition) (xs : List ℕ) where
   stands-there : 131 ≤ length xs → getD xs 11 0 ≡ getD (textOf 6 xs) 0 32

@@ -25,7 +25,7 @@ use Rattle.reporting.specs.Lines.{linesFrom, lastLine}
 use Rattle.reporting.specs.Report.{askedBy, heading, notHeld, outcomeOf, recordLine, recordsFrom, refusals, reportIn, reportOn, reportOf}
 use Rattle.reporting.specs.Run.{State, state, ledger, start, oneMore, opened, opening, refusedAfter, ledgerAfter, saidOf, kept, step, saidAt, stateAfter, saidBy, lastOf, closing, saidInPieces, view}
 use Rattle.reporting.specs.Puts.{Puts, Feeds, Finishes}
-use Rattle.wording.proofs.WordingLaws.{placed-front}
+use Rattle.numerals.proofs.PlacedLaws.{placed-front}
 use Rattle.reporting.proofs.CutLaws.{said-cut, ledger-cut, kept-cut}
 use Rattle.reporting.proofs.RunLaws.{state-append, said-append}
 

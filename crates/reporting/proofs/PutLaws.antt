@@ -9,7 +9,8 @@ use lib.ListN.{length, length-append}
 use lib.Dec.{lit≤}
 use Rattle.numerals.specs.Spelling.{placed}
 use Rattle.wording.specs.Wording.{decimal}
-use Rattle.wording.proofs.WordingLaws.{placed-none, placed-length, placed-twice, decimal-short, small-number}
+use Rattle.numerals.proofs.PlacedLaws.{placed-none, placed-length, placed-twice}
+use Rattle.wording.proofs.WordingLaws.{decimal-short, small-number}
 use Rattle.losses.specs.Losses.{elements}
 use Rattle.reporting.specs.Puts.{Puts}
 use Rattle.reporting.specs.Report.{blank, numbered, numbers, ifLost}

@@ -1,7 +1,7 @@
 -- Readings that some legal texts give are given by the texts that the writer spells. Where the two texts differ it is because more than one text gives the
 -- reading: a sign without its temperature reads as missing, and so do blanks; minus zero is zero. Assumes nothing.
 use mathlib.Core.Path.{_≡_, refl, sym, ap, _∙_}
-use mathlib.Core.Bool.{Bool, true, false, _&&_, _||_}
+use mathlib.Core.Bool.{Bool, true, false, _&&_}
 use mathlib.Core.Logic.{⊎-elim}
 use mathlib.Core.List.{List, [], _∷_}
 use Prim.Native.Nat.{ℕ, _-_}
@@ -17,6 +17,7 @@ use Rattle.text.proofs.Ways.{and-first, and-second}
 use Rattle.numerals.specs.Spelling.{spelled, spell, inDigits, inBlanks}
 use Rattle.layout.specs.declared.Edition.{Edition}
 use Rattle.layout.specs.Page.{element, page, widthOf, textsOf, mayBeBlank, legalText}
+use Rattle.layout.proofs.Elements.{blank-legal, allowed-legal}
 use Rattle.ties.specs.Ties.{placeTie, signTie}
 use Rattle.ties.specs.Ties as Ties
 use Rattle.reading.specs.declared.Kind.{Kind}
@@ -25,17 +26,6 @@ use Rattle.reading.specs.declared.Reading.the-variants.{Missing, Amount}
 use Rattle.reading.specs.Readings.{temperature, placeOf}
 use Rattle.writing.specs.Spelled.{amountNumeral, numeralFor}
 use Rattle.writing.proofs.BackLaws.{Holds, sign-back, value-back, digit-back, latitude-back, longitude-back}
-
--- blanks are legal where they may stand
-blank-legal : (ed : Edition) (e : ℕ) (t : List ℕ) → mayBeBlank e ≡ true → blank t ≡ true → legalText ed e t ≡ true
-blank-legal ed e t m b = rw (m, b)
-
-allowed-legal : (ed : Edition) (e : ℕ) (t : List ℕ) → allows (textsOf ed e) t ≡ true → legalText ed e t ≡ true
-allowed-legal ed e t a = by (mayBeBlank e && blank t)
-  where
-    by : (x : Bool) → (x || allows (textsOf ed e) t) ≡ true
-    by true = refl
-    by false = a
 
 -- a sign s and a temperature v, of which t and u are spelled
 module _ (ed : Edition) (e f : ℕ) (s v t u : List ℕ) (g : among 16 18 28 50 e ≡ true) (n : among 16 18 28 50 f ≡ false) (k : among 17 19 29 51 f ≡ true)

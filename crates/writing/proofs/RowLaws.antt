@@ -3,10 +3,11 @@ use mathlib.Core.Path.{_≡_, sym, ap, _∙_}
 use mathlib.Core.List.{List, [], _++_, append-assoc, append-nil}
 use Prim.Native.Nat.{ℕ, _+_, _-_, _<_, _≤_}
 use native.Mathlib.Omega.{arith}
-use lib.ListN.{length, take, drop, length-append}
-use lib.Seq.{take-all, take-at, length-take-le}
+use lib.ListN.{length, take}
+use lib.Seq.{take-all}
 use Rattle.numerals.specs.declared.Numeral.{Numeral}
 use Rattle.numerals.specs.Spelling.{spell, placed}
+use Rattle.numerals.proofs.PlacedLaws.{placed-to}
 use Rattle.numerals.proofs.Spellings.{spelled-length}
 use Rattle.layout.specs.declared.Edition.{Edition}
 use Rattle.layout.specs.declared.Edition.the-variants.{Four}
@@ -17,10 +18,6 @@ use Rattle.layout.proofs.RecordLaws as Records
 use Rattle.reading.specs.declared.Reading.{Reading}
 use Rattle.reading.specs.Readings.{lead}
 use Rattle.writing.specs.Spelled.{numeralFor, given, textFor, rowFor}
-
--- what was placed stands in front, up to its end
-front : (at : ℕ) (t before : List ℕ) → at ≤ length before → take (at + length t) (placed at t before) ≡ take at before ++ t
-front at t before h = take-at (take at before ++ t) (drop (at + length t) before) (at + length t) (length-append (take at before) t ∙ ap (λ (k : ℕ). k + length t) (length-take-le at before h))
 
 one-more : (ed : Edition) (rs : List Reading) (e : ℕ) → e ≤ 101 → rowFor ed rs e (101 + 1 - e) ≡ textFor ed rs e ++ rowFor ed rs (e + 1) (101 + 1 - (e + 1))
 unfolding rowFor
@@ -33,7 +30,7 @@ module _ (ed : Edition) (rs : List Reading) (whole row : List ℕ) (at e : ℕ) 
       let rest : List ℕ = rowFor ed rs (e + 1) (101 + 1 - (e + 1)) in
       let long : length (spell w m) ≡ w = spelled-length (m .base) (m .nought) w (m .number) in
       let taken : take (at + w) (placed at (spell w m) row) ≡ take at row ++ spell w m =
-      ap (λ (k : ℕ). take (at + k) (placed at (spell w m) row)) (sym long) ∙ front at (spell w m) row (omega arith) in
+      ap (λ (k : ℕ). take (at + k) (placed at (spell w m) row)) (sym long) ∙ placed-to at (spell w m) row (omega arith) in
       let text : spell w m ≡ textFor ed rs e = ap (λ (k : ℕ). spell k m) f ∙ ap (spell (widthOf e)) g in
       ap (λ (t : List ℕ). t ++ rest) taken ∙ append-assoc (take at row) (spell w m) rest ∙ ap (λ (t : List ℕ). take at row ++ (t ++ rest)) text ∙
       ap (λ (t : List ℕ). take at row ++ t) (sym (one-more ed rs e h)) ∙ inv

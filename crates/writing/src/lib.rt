@@ -50,7 +50,7 @@ fn kind_number(kind: Kind) -> u64
     }
 }
 
-fn parts_of(reading: Reading) -> Parts
+pub fn parts_of(reading: Reading) -> Parts
     ensures { λ r. ⌜ r ≡ partsOf reading ⌝ }
 {
     match reading {

@@ -1,0 +1,2 @@
+-- The laws that the functions of this crate cite.
+pub mod PackedLaws

@@ -1,0 +1,28 @@
+-- `trial::trial_show` meets its contract. Assumes nothing.
+use Rattle.trial.proofs.PackedLaws.{shown, not-shown}
+use borrow.Author.Needs.{needs}
+use lib.ListN.{length}
+use mathlib.Core.Path.{ap}
+use Rattle.trial.proofs.trial_show.Statement.{statement}
+use Rattle.trial.proofs.trial_show.Tie as tie
+
+show-call-sign-requires : tie.Need-show-call-sign-requires
+show-call-sign-requires c κs = search needs
+
+copy-requires : tie.Need-copy-requires
+copy-requires c κs = search needs
+
+same-length : tie.Need-same-length
+same-length c = search needs
+
+returns : tie.Need-returns
+returns c =
+    let sign = c .before .before .before .before .before .show-call-sign .ensures in
+    (ap length sign, shown _ _ _ _ sign (c .before .before .before .before .if1 .taken) (c .before .before .copy .ensures .1))
+
+returns-2 : tie.Need-returns-2
+returns-2 c = (ap length (c .before .show-call-sign .ensures), not-shown _ _ _ (c .before .show-call-sign .ensures) (c .if1 .left))
+
+pub trial-show-spec : {M : Type 1} → statement M
+trial-show-spec =
+    tie.close (tie.spec show-call-sign-requires copy-requires same-length returns returns-2)

@@ -1,0 +1,444 @@
+/*
+ * ours - answers trial calls with the proved implementation, a line each.
+ *
+ * Requests come on standard input and answers go to standard output, in the protocol that src/calls.rs describes, so that what this program
+ * writes can be held byte for byte against what `peer calls` writes. It judges no record itself: it takes a line apart, lends the memory,
+ * makes the call and prints what came back. Link it with libdesk.a (check and recast: the calls that a host makes) and libtrial.a (the
+ * others), which `rt staticlib desk` and `rt staticlib trial` write.
+ *
+ * One thing of the protocol does not come from a call: where the call sign stands. The proved call shows a part of the caller's own record,
+ * which a function for C cannot return, so trial_show copies it. PLACE is 72 where the record has the copied bytes there, and 0 elsewhere.
+ */
+#include <inttypes.h>
+#include <stdio.h>
+#include <stdlib.h>
+#include <string.h>
+
+#include "immt.h"
+
+/* libtrial.a; crates/trial/src/lib.rt says what the numbers mean */
+uint64_t trial_read(const uint8_t *record, size_t length, uint64_t element, uint64_t *place, uint64_t *reading, uint64_t *below,
+                    uint64_t *first, uint64_t *second, uint64_t *third);
+uint64_t trial_show(const uint8_t *record, size_t length, uint8_t *buffer, size_t room);
+uint64_t trial_write(const uint64_t *numbers, size_t number_count, const int64_t *amounts, size_t amount_count, uint64_t edition,
+                     uint8_t *buffer, size_t room, uint64_t *place);
+
+enum { ELEMENTS = 101, PARTS = 4, MOST_ROOM = 4096, GUARD = 16, CALL_SIGN_COLUMN = 72, PIECE = 1 << 16 };
+
+enum { MISSING, CODE, TEXT, AMOUNT, PLACE };
+
+static const char *const kinds[] = {"measured", "computed", "iced measured", "iced computed"};
+
+static void fail(const char *what)
+{
+    fprintf(stderr, "ours: %s\n", what);
+    exit(1);
+}
+
+/* Bytes that grow. */
+struct bytes {
+    uint8_t *at;
+    size_t length;
+    size_t room;
+};
+
+static void reserve(struct bytes *bytes, size_t more)
+{
+    if (bytes->room - bytes->length >= more)
+        return;
+    bytes->room = 2 * bytes->room + more;
+    bytes->at = realloc(bytes->at, bytes->room);
+    if (bytes->at == NULL)
+        fail("out of memory");
+}
+
+static void put(struct bytes *bytes, const void *from, size_t count)
+{
+    if (count == 0)
+        return;
+    reserve(bytes, count);
+    memcpy(bytes->at + bytes->length, from, count);
+    bytes->length += count;
+}
+
+static void put_text(struct bytes *bytes, const char *text)
+{
+    put(bytes, text, strlen(text));
+}
+
+static void put_number(struct bytes *bytes, uint64_t number)
+{
+    char digits[24];
+    put(bytes, digits, (size_t)sprintf(digits, "%" PRIu64, number));
+}
+
+static void put_word(struct bytes *bytes, uint64_t word)
+{
+    char digits[24];
+    put(bytes, digits, (size_t)sprintf(digits, "%016" PRIx64, word));
+}
+
+static void put_hexadecimal(struct bytes *bytes, const uint8_t *from, size_t count)
+{
+    static const char digits[] = "0123456789abcdef";
+    if (count == 0)
+        put_text(bytes, "-");
+    reserve(bytes, 2 * count);
+    for (size_t i = 0; i < count; i++) {
+        bytes->at[bytes->length++] = (uint8_t)digits[from[i] >> 4];
+        bytes->at[bytes->length++] = (uint8_t)digits[from[i] & 15];
+    }
+}
+
+/* A part of a line: the bytes from `at` up to, not including, `end`. */
+struct part {
+    const uint8_t *at;
+    const uint8_t *end;
+};
+
+static int is(struct part part, const char *text)
+{
+    size_t length = strlen(text);
+    return (size_t)(part.end - part.at) == length && memcmp(part.at, text, length) == 0;
+}
+
+/* Splits at the first such byte, which goes to neither; false where there is none. */
+static int split(struct part whole, uint8_t byte, struct part *before, struct part *after)
+{
+    size_t length = (size_t)(whole.end - whole.at);
+    const uint8_t *found = length == 0 ? NULL : memchr(whole.at, byte, length);
+    if (found == NULL)
+        return 0;
+    *before = (struct part){whole.at, found};
+    *after = (struct part){found + 1, whole.end};
+    return 1;
+}
+
+/* What is left of a request; `more` is false once the last field was taken. */
+struct fields {
+    struct part rest;
+    int more;
+};
+
+static int next(struct fields *fields, struct part *field)
+{
+    if (!fields->more)
+        return 0;
+    if (!split(fields->rest, ' ', field, &fields->rest)) {
+        *field = fields->rest;
+        fields->more = 0;
+    }
+    return 1;
+}
+
+static int number_of(struct part part, uint64_t *number)
+{
+    uint64_t value = 0;
+    if (part.at == part.end)
+        return 0;
+    for (; part.at < part.end; part.at++) {
+        if (*part.at < '0' || *part.at > '9')
+            return 0;
+        uint64_t digit = (uint64_t)(*part.at - '0');
+        if (value > (UINT64_MAX - digit) / 10)
+            return 0;
+        value = 10 * value + digit;
+    }
+    *number = value;
+    return 1;
+}
+
+static int signed_of(struct part part, int64_t *number)
+{
+    const uint64_t lowest = (uint64_t)INT64_MAX + 1;
+    uint64_t value;
+    int below = part.at < part.end && *part.at == '-';
+    if (below)
+        part.at++;
+    if (!number_of(part, &value) || value > (below ? lowest : lowest - 1))
+        return 0;
+    *number = !below ? (int64_t)value : value == lowest ? INT64_MIN : -(int64_t)value;
+    return 1;
+}
+
+static int digit_of(uint8_t byte)
+{
+    if (byte >= '0' && byte <= '9')
+        return byte - '0';
+    return byte >= 'a' && byte <= 'f' ? byte - 'a' + 10 : -1;
+}
+
+static int record_of(struct part part, struct bytes *record)
+{
+    size_t length = (size_t)(part.end - part.at);
+    record->length = 0;
+    reserve(record, length + 1);
+    if (is(part, "-"))
+        return 1;
+    if (length == 0 || length % 2 != 0)
+        return 0;
+    for (; part.at < part.end; part.at += 2) {
+        int high = digit_of(part.at[0]);
+        int low = digit_of(part.at[1]);
+        if (high < 0 || low < 0)
+            return 0;
+        record->at[record->length++] = (uint8_t)(16 * high + low);
+    }
+    return 1;
+}
+
+static int next_number(struct fields *fields, uint64_t *number)
+{
+    struct part field;
+    return next(fields, &field) && number_of(field, number);
+}
+
+static int next_room(struct fields *fields, uint64_t *room)
+{
+    return next_number(fields, room) && *room <= MOST_ROOM;
+}
+
+static int last_record(struct fields *fields, struct bytes *record)
+{
+    struct part field;
+    return next(fields, &field) && record_of(field, record) && !fields->more;
+}
+
+/* The readings as trial_write takes them: four numbers and an amount for each element. */
+struct readings {
+    uint64_t numbers[ELEMENTS * PARTS];
+    int64_t amounts[ELEMENTS];
+};
+
+static int kind_of(struct part part, uint64_t *kind)
+{
+    static const char *const letters[] = {"m", "c", "im", "ic"};
+    for (*kind = 0; *kind < 4; ++*kind)
+        if (is(part, letters[*kind]))
+            return 1;
+    return 0;
+}
+
+static int reading_of(struct part part, uint64_t numbers[PARTS], int64_t *amount)
+{
+    struct part before, after;
+    if (part.at == part.end)
+        return 0;
+    uint8_t letter = *part.at++;
+    memset(numbers, 0, PARTS * sizeof *numbers);
+    *amount = 0;
+    switch (letter) {
+    case 'c':
+        numbers[0] = CODE;
+        return number_of(part, &numbers[1]);
+    case 't':
+        numbers[0] = TEXT;
+        return number_of(part, &numbers[1]);
+    case 'a':
+        numbers[0] = AMOUNT;
+        return split(part, ':', &before, &after) && signed_of(before, amount) && kind_of(after, &numbers[2]);
+    case 'p':
+        numbers[0] = PLACE;
+        return split(part, ':', &before, &after) && signed_of(before, amount) && split(after, ':', &before, &after) &&
+               number_of(before, &numbers[2]) && number_of(after, &numbers[3]);
+    default:
+        return 0;
+    }
+}
+
+static int last_readings(struct fields *fields, struct readings *readings)
+{
+    struct part field, before, after;
+    uint64_t element;
+    memset(readings, 0, sizeof *readings);
+    while (next(fields, &field)) {
+        if (is(field, "-"))
+            continue;
+        if (!split(field, '=', &before, &after) || !number_of(before, &element) || element < 1 || element > ELEMENTS)
+            return 0;
+        if (!reading_of(after, &readings->numbers[(element - 1) * PARTS], &readings->amounts[element - 1]))
+            return 0;
+    }
+    return 1;
+}
+
+/* What a call answers: the reading in the numbers of trial_read, and the buffer with its guard. What no call sets is 0. */
+struct answer {
+    uint64_t number, place, low, high;
+    uint64_t reading, below, first, second, third;
+    const uint8_t *buffer;
+    size_t length;
+};
+
+static void put_signed(struct bytes *output, const struct answer *answer)
+{
+    if (answer->below)
+        put_text(output, "-");
+    put_number(output, answer->first);
+}
+
+static void put_reading(struct bytes *output, const struct answer *answer)
+{
+    switch (answer->reading) {
+    case MISSING:
+        put_text(output, "missing");
+        break;
+    case CODE:
+        put_text(output, "code ");
+        put_number(output, answer->first);
+        break;
+    case TEXT:
+        put_text(output, "text ");
+        put_number(output, answer->first);
+        break;
+    case AMOUNT:
+        put_text(output, "amount ");
+        put_signed(output, answer);
+        put_text(output, " ");
+        put_text(output, answer->second < 4 ? kinds[answer->second] : "of no kind");
+        break;
+    case PLACE:
+        put_text(output, "place ");
+        put_signed(output, answer);
+        put_text(output, " ");
+        put_number(output, answer->second);
+        put_text(output, " ");
+        put_number(output, answer->third);
+        break;
+    default:
+        put_text(output, "of no case");
+    }
+}
+
+static void put_answer(struct bytes *output, const struct answer *answer)
+{
+    put_number(output, answer->number);
+    put_text(output, " ");
+    put_number(output, answer->place);
+    put_text(output, " ");
+    put_word(output, answer->low);
+    put_text(output, " ");
+    put_word(output, answer->high);
+    put_text(output, " ");
+    put_hexadecimal(output, answer->buffer, answer->length);
+    put_text(output, " ");
+    put_reading(output, answer);
+}
+
+/* The lent buffer and its guard, as no record fills them; the part after ROOM belongs to nobody. */
+static uint8_t memory[MOST_ROOM + GUARD];
+
+static void lend(struct answer *answer, uint64_t room)
+{
+    answer->buffer = memory;
+    answer->length = (size_t)room + GUARD;
+    for (size_t i = 0; i < answer->length; i++)
+        memory[i] = (uint8_t)(128 + i % 128);
+}
+
+static void show(struct answer *answer, const struct bytes *record)
+{
+    static struct bytes shown;
+    shown.length = 0;
+    reserve(&shown, record->length + 1);
+    answer->buffer = shown.at;
+    answer->length = (size_t)trial_show(record->at, record->length, shown.at, record->length);
+    if (answer->length > record->length)
+        fail("the call sign is longer than its record");
+    if (answer->length > 0 && answer->length + CALL_SIGN_COLUMN - 1 <= record->length &&
+        memcmp(shown.at, record->at + CALL_SIGN_COLUMN - 1, answer->length) == 0)
+        answer->place = CALL_SIGN_COLUMN;
+}
+
+/* Makes the call that a request asks for; false where it asks for none. The numbers that a call must set are set to others before. */
+static int call(struct part request, struct answer *answer)
+{
+    static struct bytes record;
+    static struct readings readings;
+    const uint64_t unset = UINT64_MAX;
+    struct fields fields = {request, 1};
+    struct part name;
+    uint64_t number, room;
+    memset(answer, 0, sizeof *answer);
+    next(&fields, &name);
+    if (is(name, "c")) {
+        if (!last_record(&fields, &record))
+            return 0;
+        answer->place = unset;
+        answer->number = immt_check(record.at, record.length, &answer->place);
+    } else if (is(name, "r")) {
+        if (!next_number(&fields, &number) || !last_record(&fields, &record))
+            return 0;
+        answer->place = answer->reading = answer->below = answer->first = answer->second = answer->third = unset;
+        answer->number = trial_read(record.at, record.length, number, &answer->place, &answer->reading, &answer->below, &answer->first,
+                                    &answer->second, &answer->third);
+    } else if (is(name, "s")) {
+        if (!last_record(&fields, &record))
+            return 0;
+        show(answer, &record);
+    } else if (is(name, "t")) {
+        if (!next_number(&fields, &number) || !next_room(&fields, &room) || !last_record(&fields, &record))
+            return 0;
+        lend(answer, room);
+        answer->place = answer->low = answer->high = unset;
+        answer->number =
+            immt_recast(record.at, record.length, number, memory, (size_t)room, &answer->place, &answer->low, &answer->high);
+    } else if (is(name, "w")) {
+        if (!next_number(&fields, &number) || !next_room(&fields, &room) || !last_readings(&fields, &readings))
+            return 0;
+        lend(answer, room);
+        answer->place = unset;
+        answer->number = trial_write(readings.numbers, ELEMENTS * PARTS, readings.amounts, ELEMENTS, number, memory, (size_t)room,
+                                     &answer->place);
+    } else {
+        return 0;
+    }
+    return 1;
+}
+
+static void flush(struct bytes *output)
+{
+    if (output->length > 0 && fwrite(output->at, 1, output->length, stdout) != output->length)
+        fail("cannot write");
+    output->length = 0;
+}
+
+static void respond(struct bytes *output, struct part request)
+{
+    struct answer answer;
+    if (call(request, &answer))
+        put_answer(output, &answer);
+    else
+        put_text(output, "?");
+    put_text(output, "\n");
+    if (output->length >= PIECE)
+        flush(output);
+}
+
+int main(void)
+{
+    struct bytes input = {NULL, 0, 0};
+    struct bytes output = {NULL, 0, 0};
+    size_t got;
+    do {
+        reserve(&input, PIECE);
+        got = fread(input.at + input.length, 1, PIECE, stdin);
+        input.length += got;
+        struct part rest = {input.at, input.at + input.length};
+        struct part line;
+        while (split(rest, '\n', &line, &rest))
+            respond(&output, line);
+        input.length = (size_t)(rest.end - rest.at);
+        memmove(input.at, rest.at, input.length);
+    } while (got > 0);
+    if (ferror(stdin))
+        fail("cannot read");
+    if (input.length > 0)
+        respond(&output, (struct part){input.at, input.at + input.length});
+    flush(&output);
+    if (fflush(stdout) != 0)
+        fail("cannot write");
+    free(input.at);
+    free(output.at);
+    return 0;
+}

@@ -40,7 +40,7 @@ module _ (ws : List ℕ) (row : WidthRow ws) (at e d : ℕ) (stands : at ≡ sta
   pub within : (ed : Edition) (xs : List ℕ) (last : ℕ) → last ≡ lastOf ed → length xs ≡ lengthOf ed → e ≤ last → at + d ≤ length xs
   within ed xs last n f h = rw (next, f, ← filled ed) (start-rises (e + 1) (lastOf ed + 1) (omega arith))
 
-  part : (xs : List ℕ) → take (at + d - at) (drop at xs) ≡ textOf e xs
+  pub part : (xs : List ℕ) → take (at + d - at) (drop at xs) ≡ textOf e xs
   unfolding textOf
   part xs = rw (add-sub-cancel-left at d, stands, width)
 

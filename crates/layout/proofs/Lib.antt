@@ -7,3 +7,4 @@ pub mod RefusalLaws
 pub mod Demand2Columns
 pub mod Parts
 pub mod RecordLaws
+pub mod Tops

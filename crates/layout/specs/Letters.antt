@@ -1,14 +1,18 @@
 -- The rows of characters in which the code keeps the page, and the letters by which they name the legal texts of an element. The letters are the
 -- code's own: what it answers is stated over `page`. Assumes nothing.
 use mathlib.Core.Path.{_≡_}
-use Prim.Native.Nat.{ℕ, _-_}
-use mathlib.Core.Bool.{cond}
+use Prim.Native.Nat.{ℕ, _-_, _≤_}
+use mathlib.Core.Bool.{true, cond}
 use mathlib.Core.List.{List, [], _∷_, map}
 use lib.Dec.{eqb}
+use lib.ListN.{length, getD}
+use Rattle.text.specs.Bytes.{every, between}
+use Rattle.text.specs.Texts.{allows}
 use Rattle.text.specs.declared.Texts.{Texts}
 use Rattle.text.specs.declared.Texts.the-variants.{Nothing, Printable, Letters, CallSign, DigitOr, Within, Either, OneOf}
 use Rattle.layout.specs.declared.Edition.{Edition}
-use Rattle.layout.specs.Page.{elements, textsIn}
+use Rattle.layout.specs.Editions.{lastOf}
+use Rattle.layout.specs.Page.{elements, widthOf, textsIn, textsOf}
 
 -- a letter, and the texts that it stands for
 pub record Entry : Type 0 where
@@ -77,3 +81,7 @@ pub record WidthRow (ws : List ℕ) : Type 0 where
 
 pub record LetterRow (ed : Edition) (ls : List ℕ) : Type 0 where
   pub says : map lettered ls ≡ map (textsIn ed) elements
+
+-- a row of digits: a text as wide as its element, of digits up to the one that the row has for it, is legal in the edition
+pub record TopRow (ed : Edition) (ts : List ℕ) : Type 0 where
+  pub says : (e : ℕ) → 1 ≤ e → e ≤ lastOf ed → (t : List ℕ) → length t ≡ widthOf e → every (between 48 (getD ts e 0)) t ≡ true → allows (textsOf ed e) t ≡ true

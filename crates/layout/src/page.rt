@@ -1,26 +1,44 @@
 // The layout page, for the check of a record's elements.
 //
-// `page` of specs/Page.antt is the page. Here it stands as four rows of characters, a character an
-// element and the first for none, so that a loop reads a byte for each element and no more: its
-// width, and a letter for its legal texts in each edition.
+// `page` of specs/Page.antt is the page. Here it stands as rows of characters, a character an element
+// and the first for none, so that a loop reads a byte for each element and no more: its width, the
+// digits that need no closer look, and a letter for its legal texts in each edition.
 use crate::Edition;
 use text::Texts;
 ghost use mathlib.Core.Path.{_≡_};
-ghost use mathlib.Core.Bool.{_&&_, _||_};
+ghost use mathlib.Core.Bool.{true, _&&_, _||_};
 ghost use Prim.Native.Nat.{_≤_, _-_};
 ghost use lib.ListN.{length, take, drop};
-ghost use Rattle.text.specs.Bytes.{blank};
+ghost use Rattle.text.specs.Bytes.{every, between, blank};
 ghost use Rattle.text.specs.Texts.{allows};
 ghost use Rattle.text.specs.First.{firstOf};
 ghost use Rattle.layout.specs.Editions.{lengthOf, lastOf};
 ghost use Rattle.layout.specs.Page.{widthOf, startOf, textOf, mayBeBlank, legal};
-ghost use Rattle.layout.specs.Letters.{lettered, WidthRow, LetterRow};
+ghost use Rattle.layout.specs.Letters.{lettered, WidthRow, TopRow, LetterRow};
 
 // The widths, a digit for each.
 pub fn widths() -> [u8; 102]
     ensures { λ r. ⌜ WidthRow r ⌝ }
 {
     *b"014222134112121213134211111113112222212111721111311313112221111111111111111111111111111332233311111111"
+}
+
+// A digit for each element: where all of its columns hold digits up to that one, the edition allows
+// the text. '/' where that can be said of no digit.
+fn tops_in(edition: Edition) -> [u8; 102]
+    ensures { λ r. ⌜ TopRow edition r ⌝ }
+{
+    match edition {
+        Edition::One => {
+            *b"//9//238139493/9192909999999197999399/9469/9/6/4/9298999399999998/55555555555555555555////////////////"
+        }
+        Edition::Three => {
+            *b"//9//2/8139493/9192909999999197999399/9469///6/4/9298999399999998/55555555555555555555/339903955555555"
+        }
+        Edition::Four => {
+            *b"//9//2/8139493/9192909999999197999399/9466///6/4/9298999399999999/77777777777777777777/339903977777777"
+        }
+    }
 }
 
 // The letters of an edition.
@@ -41,7 +59,7 @@ pub fn letters_in(edition: Edition) -> [u8; 102]
 }
 
 // The texts that a letter stands for.
-pub fn texts_of(letter: u8) -> Texts
+fn texts_of(letter: u8) -> Texts
     ensures { λ r. ⌜ r ≡ lettered letter ⌝ }
 {
     match letter {
@@ -89,6 +107,14 @@ pub fn texts_of(letter: u8) -> Texts
     }
 }
 
+// Is it one of the texts that the letter stands for?
+pub fn is_lettered(letter: u8, text: &[u8]) -> bool
+    requires { ⌜ length (now text) ≤ 7 ⌝ }
+    ensures { λ r. ⌜ r ≡ allows (lettered letter) (now (text .entry)) ⌝ }
+{
+    text::is_one(texts_of(letter), text)
+}
+
 // As many of the columns from `start` on as the record has, at most `width`.
 pub fn columns(line: &[u8], start: usize, width: usize) -> &[u8]
     ensures { λ r. ⌜ now r ≡ take width (drop start (now (line .entry))) ⌝ }
@@ -110,9 +136,9 @@ pub fn digit(b: u8) -> usize
     if b < 48 { 0 } else { (b - 48) as usize }
 }
 
-// Is the text of element e blank, where it may be?
-fn is_missing(e: usize, text: &[u8]) -> bool
-    ensures { λ r. ⌜ r ≡ (mayBeBlank e && blank (now (text .entry))) ⌝ }
+// May element e be blank?
+fn may_be_blank(e: usize) -> bool
+    ensures { λ r. ⌜ r ≡ mayBeBlank e ⌝ }
 {
     if e == 1 {
         return false;
@@ -120,7 +146,14 @@ fn is_missing(e: usize, text: &[u8]) -> bool
     if e == 65 {
         return false;
     }
-    text::is_blank(text)
+    true
+}
+
+// Is the text of element e blank, where it may be?
+fn is_missing(e: usize, text: &[u8]) -> bool
+    ensures { λ r. ⌜ r ≡ (mayBeBlank e && blank (now (text .entry))) ⌝ }
+{
+    may_be_blank(e) && text::is_blank(text)
 }
 
 // Is it that, or one of the texts that the letter stands for?
@@ -128,7 +161,21 @@ fn is_legal(e: usize, letter: u8, text: &[u8]) -> bool
     requires { ⌜ length (now text) ≤ 7 ⌝ }
     ensures { λ r. ⌜ r ≡ ((mayBeBlank e && blank (now (text .entry))) || allows (lettered letter) (now (text .entry))) ⌝ }
 {
-    is_missing(e, text) || text::is_one(texts_of(letter), text)
+    is_missing(e, text) || is_lettered(letter, text)
+}
+
+// The same, where digits up to `top` are such texts: most texts are digits that low, or blank, and
+// need no closer look.
+fn passes(e: usize, letter: u8, top: u8, text: &[u8]) -> bool
+    requires { ⌜ (length (now text) ≤ 7) × (every (between 48 top) (now text) ≡ true → allows (lettered letter) (now text) ≡ true) ⌝ }
+    ensures { λ r. ⌜ r ≡ ((mayBeBlank e && blank (now (text .entry))) || allows (lettered letter) (now (text .entry))) ⌝ }
+{
+    if text::mixed(text, 48, top) == 0 {
+        if may_be_blank(e) {
+            return true;
+        }
+    }
+    is_legal(e, letter, text)
 }
 
 // The lowest element that is neither blank nor legal, or 0.
@@ -137,13 +184,14 @@ pub fn first_illegal(edition: Edition, line: &[u8]) -> usize
     ensures { λ r. ⌜ r ≡ firstOf (lastOf edition) (legal edition (now (line .entry))) ⌝ }
 {
     let widths = widths();
+    let tops = tops_in(edition);
     let letters = letters_in(edition);
     let last = edition.last();
     let mut at = 0;
     let mut e = 1;
     while e <= last {
         let end = at + digit(widths[e]);
-        if !is_legal(e, letters[e], &line[at..end]) {
+        if !passes(e, letters[e], tops[e], &line[at..end]) {
             return e;
         }
         at = end;

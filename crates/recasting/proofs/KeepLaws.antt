@@ -58,9 +58,9 @@ module _ (from to : Edition) (e : ℕ) (t : List ℕ) where
   unfolding keeps
   kept-version h = rw h
 
-  module _ (a : e ≡ 6 → ⊥) (b : e ≡ 65 → ⊥) (letter : ℕ) (texts : Texts) (is : texts ≡ lettered letter) (row : lettered letter ≡ textsOf to e) (x : Bool) (f : x ≡ allows texts t) where
+  module _ (a : e ≡ 6 → ⊥) (b : e ≡ 65 → ⊥) (letter : ℕ) (row : lettered letter ≡ textsOf to e) (x : Bool) (f : x ≡ allows (lettered letter) t) where
     allowed : allows (textsOf to e) t ≡ x
-    allowed = ap (λ (s : Texts). allows s t) (sym row ∙ sym is) ∙ sym f
+    allowed = ap (λ (s : Texts). allows s t) (sym row) ∙ sym f
 
     pub not-allowed : x ≡ false → x ≡ keeps from to e t
     unfolding keeps

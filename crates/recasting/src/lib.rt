@@ -198,7 +198,7 @@ fn is_kept(from: Edition, to: Edition, e: usize, letter: u8, text: &[u8]) -> boo
     if e == 65 {
         return true;
     }
-    text::is_one(page::texts_of(letter), text) && is_same_sense(from, to, e, text)
+    page::is_lettered(letter, text) && is_same_sense(from, to, e, text)
 }
 
 // Is the text of element e lost? Most elements have the same texts in both editions, which their

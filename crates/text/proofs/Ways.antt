@@ -27,6 +27,11 @@ pub and-second : (a b : Bool) → (a && b) ≡ true → b ≡ true
 and-second true b e = e
 and-second false b e = absurd (true≢false (sym e))
 
+-- a test that passes by its second half
+pub second-holds : (a b : Bool) → b ≡ true → (a || b) ≡ true
+second-holds true b e = refl
+second-holds false b e = e
+
 pub same-true : (a b : Bool) → a ≡ true → b ≡ Bool·beq a b
 same-true true true e = refl
 same-true true false e = refl

@@ -2,7 +2,7 @@
 //
 // Every function takes the columns alone, as a part of the record. What a record's columns are is
 // the business of `layout`. The contracts cite `specs/Bytes.antt` and `specs/Texts.antt`.
-ghost use mathlib.Core.Bool.{true, Bool·beq};
+ghost use mathlib.Core.Bool.{true, _||_, Bool·beq};
 ghost use mathlib.Core.Path.{_≡_};
 ghost use Prim.Native.Nat.{_≤_, _-_};
 ghost use lib.ListN.{length, take};
@@ -53,14 +53,15 @@ pub fn all_between(text: &[u8], lo: u8, hi: u8) -> bool
     true
 }
 
-// 0 where the byte is printable.
-fn outside(b: u8) -> u8
-    ensures { λ r. ⌜ (r ≡ 0 → printable b ≡ true) ⌝ }
+// 0 where the byte is one from lo to hi, otherwise 1.
+fn outside(b: u8, lo: u8, hi: u8) -> u8
+    ensures { λ r. ⌜ (r ≡ 0 → between lo hi b ≡ true) ⌝ }
+    ensures { λ r. ⌜ r ≤ 1 ⌝ }
 {
-    if b < 32 {
+    if b < lo {
         return 1;
     }
-    if 126 < b {
+    if hi < b {
         return 1;
     }
     0
@@ -74,10 +75,27 @@ pub fn unprintable(text: &[u8]) -> u8
     let mut bad = 0u8;
     let mut i = 0;
     while i < text.len() {
-        bad = bad | outside(text[i]);
+        bad = bad | outside(text[i], 32, 126);
         i += 1;
     }
     bad
+}
+
+// 0 only where every byte is one from lo to hi, or every byte is blank. It too goes to the end: a
+// branch at each byte costs more than the bytes where a record may as well have the one as the other.
+pub fn mixed(text: &[u8], lo: u8, hi: u8) -> u8
+    ensures { λ r. ⌜ (r ≡ 0 → (blank (now (text .entry)) || every (between lo hi) (now (text .entry))) ≡ true) ⌝ }
+{
+    let mut strange = 0u8;
+    let mut filled = 0u8;
+    let mut i = 0;
+    while i < text.len() {
+        let b = text[i];
+        strange = strange | outside(b, lo, hi);
+        filled = filled | outside(b, 32, 32);
+        i += 1;
+    }
+    strange & filled
 }
 
 // Is it blank over all of the columns, that is, missing?

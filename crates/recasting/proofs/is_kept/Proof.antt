@@ -10,20 +10,17 @@ returns c = kept-six _ _ _ _ (c .if1 .taken)
 returns-2 : tie.Need-returns-2
 returns-2 c = kept-version _ _ _ _ (c .if2 .taken)
 
-texts-of-requires : tie.Need-texts-of-requires
-texts-of-requires c κs = search needs
-
-is-one-requires : tie.Need-is-one-requires
-is-one-requires c κs = search needs
+is-lettered-requires : tie.Need-is-lettered-requires
+is-lettered-requires c κs = search needs
 
 is-same-sense-requires : tie.Need-is-same-sense-requires
 is-same-sense-requires c κs = search needs
 
 returns-3 : tie.Need-returns-3
-returns-3 c = in-sense _ _ _ _ (c .before .before .before .before .before .if1 .left) (c .before .before .before .before .if2 .left) _ _ (c .before .before .before .texts-of .ensures) (c .before .before .before .before .before .before .before .pre .1) _ (c .before .before .is-one .ensures) (c .before .if3 .taken) _ (c .is-same-sense .ensures)
+returns-3 c = in-sense _ _ _ _ (c .before .before .before .before .if1 .left) (c .before .before .before .if2 .left) _ (c .before .before .before .before .before .before .pre .1) _ (c .before .before .is-lettered .ensures) (c .before .if3 .taken) _ (c .is-same-sense .ensures)
 
 returns-4 : tie.Need-returns-4
-returns-4 c = not-allowed _ _ _ _ (c .before .before .before .before .if1 .left) (c .before .before .before .if2 .left) _ _ (c .before .before .texts-of .ensures) (c .before .before .before .before .before .before .pre .1) _ (c .before .is-one .ensures) (c .if3 .left)
+returns-4 c = not-allowed _ _ _ _ (c .before .before .before .if1 .left) (c .before .before .if2 .left) _ (c .before .before .before .before .before .pre .1) _ (c .before .is-lettered .ensures) (c .if3 .left)
 
 pub is-kept-spec : {M : Type 1} → statement M
 is-kept-spec =
@@ -31,8 +28,7 @@ is-kept-spec =
     (tie.spec
     returns
     returns-2
-    texts-of-requires
-    is-one-requires
+    is-lettered-requires
     is-same-sense-requires
     returns-3
     returns-4)

@@ -34,7 +34,7 @@ loop-less c = search needs
 loop-again : tie.Need-loop-again Inv-loop μ-loop
 loop-again c = (
   omega arith,
-  λ e. c .before .before .before .loop .inv .1 (or-left _ _ e) ∙ on printable _ _ (c .before .before .loop-test .taken) (c .outside .ensures (or-right (c .before .before .before .loop .bad) _ e)),
+  λ e. c .before .before .before .loop .inv .1 (or-left _ _ e) ∙ on printable _ _ (c .before .before .loop-test .taken) (c .outside .ensures .0 (or-right (c .before .before .before .loop .bad) _ e)),
 )
 
 returns : tie.Need-returns Inv-loop μ-loop

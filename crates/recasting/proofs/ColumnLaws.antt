@@ -1,7 +1,7 @@
 -- Column 12 of the recast record: it stays, or it is the lowest digit with the same place that keeps tie 2. Assumes nothing.
 use mathlib.Core.Path.{_≡_, refl, sym, ap, _∙_}
 use mathlib.Core.Logic.{_⊎_, inl, inr}
-use mathlib.Core.Bool.{Bool, true, false, cond, not, _&&_, true≢false}
+use mathlib.Core.Bool.{Bool, true, false, true≢false}
 use mathlib.Core.List.{List, [], _∷_}
 use Prim.Native.Nat.{ℕ, _+_, _-_}
 use native.Mathlib.Omega.{arith}
@@ -14,13 +14,12 @@ use Rattle.layout.specs.declared.Edition.the-variants.{One, Three, Four}
 use Rattle.layout.specs.Page.{page, element, textOf, textsOf}
 use Rattle.layout.proofs.Beyond.{last-above}
 use Rattle.layout.proofs.RecordLaws.{shortest}
-use Rattle.ties.specs.Ties.{there}
 use Rattle.checking.specs.Acceptable.{Acceptable}
 use Rattle.checking.proofs.PrintLaws.{legal-prints}
-use Rattle.hemispheres.specs.Digits.{lowestDigit, crosses}
+use Rattle.hemispheres.specs.Digits.{crosses}
 use Rattle.hemispheres.proofs.Demand3Digits.{Found, digit-found}
 use Rattle.recasting.specs.Recast.{hemisphere, recastText}
-use Rattle.recasting.proofs.PlaceLaws.{six}
+use Rattle.recasting.proofs.PlaceLaws.{six, chosen, by-tests}
 use Rattle.recasting.proofs.ResultLaws.{result, result-text}
 
 -- a digit as a character is no blank, and says its number
@@ -70,28 +69,20 @@ module _ (from to : Edition) (xs : List ℕ) (a : Acceptable from xs) where
       ap (λ (t : List ℕ). getD t 0 32 ∷ []) one ∙ sym one
 
   pub column : Column
-  unfolding hemisphere
+  unfolding chosen
   column = by (crosses from to) (blank (textOf 6 xs)) refl refl
     where
-      low : ℕ
-      low = lowestDigit from to (number (textOf 6 xs)) (number (textOf 7 xs)) (number (textOf 8 xs))
-
-      stay : ℕ
-      stay = getD (textOf 6 xs) 0 32
-
-      chosen : (x b : Bool) → crosses from to ≡ x → blank (textOf 6 xs) ≡ b → hemisphere from to xs ≡ cond (x && not b) low stay
-      chosen x b f g = ap (λ (y : Bool). cond (y && there (textOf 6 xs)) low stay) f ∙ ap (λ (y : Bool). cond (x && not y) low stay) g
-
-      kept : (crosses from to ≡ false) ⊎ (blank (textOf 6 xs) ≡ true) → hemisphere from to xs ≡ stay → Column
-      kept w h = stays w (six-text ∙ ap (λ (n : ℕ). n ∷ []) h ∙ own-six)
+      -- what the two tests choose is what is written
+      written : (x b : Bool) → crosses from to ≡ x → blank (textOf 6 xs) ≡ b → textOf 6 (result from to xs a) ≡ chosen from to xs x b ∷ []
+      written x b f g = six-text ∙ ap (λ (n : ℕ). n ∷ []) (sym (by-tests from to xs x b (sym f) (sym g)))
 
       found : place
       found = digit-found from to (number (textOf 6 xs)) (number (textOf 7 xs)) (number (textOf 8 xs))
 
       by : (x b : Bool) → crosses from to ≡ x → blank (textOf 6 xs) ≡ b → Column
-      by false b f g = kept (inl f) (chosen false b f g)
-      by true true f g = kept (inr g) (chosen true true f g)
-      by true false f g = moves f g found (six-text ∙ ap (λ (n : ℕ). n ∷ []) (chosen true false f g ∙ found .is))
+      by false b f g = stays (inl f) (written false b f g ∙ own-six)
+      by true true f g = stays (inr g) (written true true f g ∙ own-six)
+      by true false f g = moves f g found (written true false f g ∙ ap (λ (n : ℕ). n ∷ []) (found .is))
 
   -- it is there exactly where it was
   pub same-there : blank (textOf 6 (result from to xs a)) ≡ blank (textOf 6 xs)

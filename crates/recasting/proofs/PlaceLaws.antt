@@ -30,11 +30,11 @@ module _ (from to : Edition) (xs : List ℕ) where
   stands-there h = sym (ap (λ (t : List ℕ). getD t 0 32) (six xs ∙ one-column xs 11 (omega arith)))
 
   -- column 12 by what the two tests say
-  unfoldable chosen : Bool → Bool → ℕ
+  unfoldable pub chosen : Bool → Bool → ℕ
   chosen crossing is-blank =
       cond (crossing && not is-blank) (lowestDigit from to (number (textOf 6 xs)) (number (textOf 7 xs)) (number (textOf 8 xs))) (getD (textOf 6 xs) 0 32)
 
-  by-tests : (x b : Bool) → x ≡ crosses from to → b ≡ blank (textOf 6 xs) → chosen x b ≡ hemisphere from to xs
+  pub by-tests : (x b : Bool) → x ≡ crosses from to → b ≡ blank (textOf 6 xs) → chosen x b ≡ hemisphere from to xs
   unfolding hemisphere chosen
   by-tests x b f g = ap (λ (y : Bool). chosen y b) f ∙ ap (chosen (crosses from to)) g
 

@@ -8,3 +8,5 @@ pub mod Demand2Columns
 pub mod Parts
 pub mod RecordLaws
 pub mod Tops
+pub mod Singles
+pub mod Alike

@@ -12,7 +12,7 @@ use Rattle.text.specs.Texts.{allows, digitOr}
 use Rattle.text.specs.declared.Texts.{Texts}
 use Rattle.text.specs.declared.Texts.the-variants.{Nothing, Printable, Letters, CallSign, DigitOr, Within, Either, OneOf}
 use Rattle.text.specs.First.{firstOf}
-use Rattle.text.proofs.First.{Looked, looked, nowhere, lowest}
+use Rattle.text.proofs.First.{all-of-none}
 use Rattle.text.proofs.Ways.{and-first, and-second}
 use Rattle.layout.specs.declared.Edition.{Edition}
 use Rattle.layout.specs.Editions.{lengthOf, lastOf}
@@ -83,7 +83,7 @@ no-digit top h (b ∷ bs) w e =
     absurd (omega (arith, leb-true 48 b (and-first _ (leb b top) (and-first _ (every (between 48 top) bs) e)), leb-true b top (and-second (leb 48 b) _ (and-first _ (every (between 48 top) bs) e))))
 
 -- what antt computes of each element
-abbrev fits : Edition → List ℕ → ℕ → Bool
+abbrev pub fits : Edition → List ℕ → ℕ → Bool
 fits ed ts e = (leb (getD ts e 0) 47 && leb 1 (widthOf e)) || (leb (getD ts e 0) 57 && enough (textsOf ed e) (widthOf e) (getD ts e 0))
 
 legal-digits : (s : Texts) (w top : ℕ) → ((leb top 47 && leb 1 w) || (leb top 57 && enough s w top)) ≡ true →
@@ -96,25 +96,25 @@ legal-digits s w top h t l e = by (leb top 47 && leb 1 w) refl
         let g : (leb top 57 && enough s w top) ≡ true = rw f at h in
         are-allowed top (leb-true top 57 (and-first _ _ g)) t e s (rw l (and-second (leb top 57) _ g))
 
-passed : (p : ℕ → Bool) (n q : ℕ) → q ≡ 0 → Looked p 1 n q → (e : ℕ) → 1 ≤ e → e ≤ n → p e ≡ true
-passed p n q z (nowhere f) e h k = f e h (omega arith)
-passed p n q z (lowest r a b x f) e h k = absurd (omega arith)
-
-pub top-row : (ed of : Edition) (ts : List ℕ) → ed ≡ of → firstOf (lastOf of) (fits of ts) ≡ 0 → TopRow ed ts
-top-row ed of ts is none = rw is (record { says = λ e h k. legal-digits (textsOf of e) (widthOf e) (getD ts e 0) (passed (fits of ts) (lastOf of) _ none (looked (fits of ts) 1 (lastOf of)) e h k) })
+pub top-row : (ts : List ℕ) → ((ed : Edition) → firstOf (lastOf ed) (fits ed ts) ≡ 0) → TopRow ts
+top-row ts none =
+    record { says = λ ed e h k. legal-digits (textsOf ed e) (widthOf e) (getD ts e 0) (all-of-none (fits ed ts) 1 (lastOf ed) (omega arith) (none ed) e h (omega arith)) }
 
 -- so a text of low digits is one that the letter of its element stands for
-pub low-digits : (ed : Edition) (xs ts ls : List ℕ) → length xs ≡ lengthOf ed → TopRow ed ts → LetterRow ed ls → (e last : ℕ) → 1 ≤ e → last ≡ lastOf ed → e ≤ last →
+pub low-digits : (ed : Edition) (xs ts ls : List ℕ) → length xs ≡ lengthOf ed → TopRow ts → LetterRow ed ls → (e last : ℕ) → 1 ≤ e → last ≡ lastOf ed → e ≤ last →
     (t : List ℕ) → t ≡ textOf e xs → every (between 48 (getD ts e 0)) t ≡ true → allows (lettered (getD ls e 0)) t ≡ true
 low-digits ed xs ts ls full tops letters e last h n k t p d =
     let within : e ≤ lastOf ed = rw (← n) k in
-    rw (texts-at ed ls letters e) (tops .says e h within t (ap length p ∙ text-long ed xs full e within) d)
+    rw (texts-at ed ls letters e) (tops .says ed e h within t (ap length p ∙ text-long ed xs full e within) d)
 
--- and that is legal, as a blank one is where it may be blank
-pub legal-anyway : (e : ℕ) (s : Texts) (t : List ℕ) (top : ℕ) → (every (between 48 top) t ≡ true → allows s t ≡ true) → (blank t || every (between 48 top) t) ≡ true →
-    (m : Bool) → m ≡ mayBeBlank e → m ≡ true → true ≡ ((mayBeBlank e && blank t) || allows s t)
-legal-anyway e s t top f g m is h = sym (rw (← is, h) (by (blank t) g))
+-- and so it is blank or one of them
+pub plain : (top : ℕ) (s : Texts) (t : List ℕ) → (every (between 48 top) t ≡ true → allows s t ≡ true) → (blank t || every (between 48 top) t) ≡ true → (blank t || allows s t) ≡ true
+plain top s t f g = by (blank t) g
   where
     by : (x : Bool) → (x || every (between 48 top) t) ≡ true → (x || allows s t) ≡ true
     by true k = refl
     by false k = f k
+
+-- which is legal where the element may be blank
+pub legal-anyway : (e : ℕ) (s : Texts) (t : List ℕ) → (blank t || allows s t) ≡ true → (m : Bool) → m ≡ mayBeBlank e → m ≡ true → true ≡ ((mayBeBlank e && blank t) || allows s t)
+legal-anyway e s t f m is h = sym (rw (← is, h) f)

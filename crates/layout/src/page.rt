@@ -7,6 +7,7 @@ use crate::Edition;
 use text::Texts;
 ghost use mathlib.Core.Path.{_≡_};
 ghost use mathlib.Core.Bool.{true, _&&_, _||_};
+ghost use mathlib.Core.List.{[], _∷_};
 ghost use Prim.Native.Nat.{_≤_, _-_};
 ghost use lib.ListN.{length, take, drop};
 ghost use Rattle.text.specs.Bytes.{every, between, blank};
@@ -14,7 +15,7 @@ ghost use Rattle.text.specs.Texts.{allows};
 ghost use Rattle.text.specs.First.{firstOf};
 ghost use Rattle.layout.specs.Editions.{lengthOf, lastOf};
 ghost use Rattle.layout.specs.Page.{widthOf, startOf, textOf, mayBeBlank, legal};
-ghost use Rattle.layout.specs.Letters.{lettered, WidthRow, TopRow, LetterRow};
+ghost use Rattle.layout.specs.Letters.{lettered, WidthRow, TopRow, LetterRow, SingleWord};
 
 // The widths, a digit for each.
 pub fn widths() -> [u8; 102]
@@ -23,22 +24,12 @@ pub fn widths() -> [u8; 102]
     *b"014222134112121213134211111113112222212111721111311313112221111111111111111111111111111332233311111111"
 }
 
-// A digit for each element: where all of its columns hold digits up to that one, the edition allows
-// the text. '/' where that can be said of no digit.
-fn tops_in(edition: Edition) -> [u8; 102]
-    ensures { λ r. ⌜ TopRow edition r ⌝ }
+// A digit for each element of more than one column: where all of them hold digits up to that one,
+// every edition that has the element allows the text. '/' where that can be said of no digit.
+fn tops() -> [u8; 102]
+    ensures { λ r. ⌜ TopRow r ⌝ }
 {
-    match edition {
-        Edition::One => {
-            *b"//9//238139493/9192909999999197999399/9469/9/6/4/9298999399999998/55555555555555555555////////////////"
-        }
-        Edition::Three => {
-            *b"//9//2/8139493/9192909999999197999399/9469///6/4/9298999399999998/55555555555555555555/339903955555555"
-        }
-        Edition::Four => {
-            *b"//9//2/8139493/9192909999999197999399/9466///6/4/9298999399999999/77777777777777777777/339903977777777"
-        }
-    }
+    *b"//9//2/81//4/3/9/9/909///////9//99399/9////////////9/9//399////////////////////////////3399039////////"
 }
 
 // The letters of an edition.
@@ -115,6 +106,51 @@ pub fn is_lettered(letter: u8, text: &[u8]) -> bool
     text::is_one(texts_of(letter), text)
 }
 
+// The bytes that alone are blank or one of the texts that the letter stands for, a bit for each from
+// the blank on: bit 15 is '/', bits 16 to 25 are the digits and bit 33 is 'A'. Only the letters of
+// elements that have one column are asked for.
+fn singles_of(letter: u8) -> u64
+    ensures { λ r. ⌜ SingleWord letter r ⌝ }
+{
+    match letter {
+        b'G' => 0x1ef_0001,
+        b'H' => 0xaa_0001,
+        b'K' => 0xf_0001,
+        b'L' => 0x3ff_8001,
+        b'O' => 0x1b_0001,
+        b'Q' => 0x3_0001,
+        b'S' => 0xe7_0001,
+        b'U' => 0x3ff_0001,
+        b'V' => 0xff_0001,
+        b'W' => 0x3e_0001,
+        b'X' => 0x1f_0001,
+        b'Y' => 0x7f_0001,
+        b'Z' => 0x27f_0001,
+        b'c' => 0xffff_ffff_ffff_ffff,
+        b'd' => 0x92_0001,
+        b'f' => 0x1ff_0001,
+        b'g' => 0x2_03ff_0001,
+        b'k' => 0x23f_0001,
+        b'l' => 0x2ff_0001,
+        b'm' => 0x7e_0001,
+        _ => 1,
+    }
+}
+
+// Is the byte alone surely blank or one of the texts that the letter stands for? One test answers
+// for both, since a branch on which of them it is costs more than the rest.
+pub fn stands(letter: u8, b: u8) -> bool
+    ensures { λ r. ⌜ (r ≡ true → (blank (b ∷ []) || allows (lettered letter) (b ∷ [])) ≡ true) ⌝ }
+{
+    if b < 32 {
+        return false;
+    }
+    if 95 < b {
+        return false;
+    }
+    (singles_of(letter) >> (b - 32)) & 1 == 1
+}
+
 // As many of the columns from `start` on as the record has, at most `width`.
 pub fn columns(line: &[u8], start: usize, width: usize) -> &[u8]
     ensures { λ r. ⌜ now r ≡ take width (drop start (now (line .entry))) ⌝ }
@@ -164,13 +200,24 @@ fn is_legal(e: usize, letter: u8, text: &[u8]) -> bool
     is_missing(e, text) || is_lettered(letter, text)
 }
 
-// The same, where digits up to `top` are such texts: most texts are digits that low, or blank, and
-// need no closer look.
+// Is the text surely blank or one of those that the letter stands for, where digits up to `top` are?
+// Most texts are, and need no closer look.
+fn is_plain(letter: u8, top: u8, text: &[u8]) -> bool
+    requires { ⌜ (every (between 48 top) (now text) ≡ true → allows (lettered letter) (now text) ≡ true) ⌝ }
+    ensures { λ r. ⌜ (r ≡ true → (blank (now (text .entry)) || allows (lettered letter) (now (text .entry))) ≡ true) ⌝ }
+{
+    if text.len() == 1 {
+        return stands(letter, text[0]);
+    }
+    text::mixed(text, 48, top) == 0
+}
+
+// The same as `is_legal`, where digits up to `top` are texts that the letter stands for.
 fn passes(e: usize, letter: u8, top: u8, text: &[u8]) -> bool
     requires { ⌜ (length (now text) ≤ 7) × (every (between 48 top) (now text) ≡ true → allows (lettered letter) (now text) ≡ true) ⌝ }
     ensures { λ r. ⌜ r ≡ ((mayBeBlank e && blank (now (text .entry))) || allows (lettered letter) (now (text .entry))) ⌝ }
 {
-    if text::mixed(text, 48, top) == 0 {
+    if is_plain(letter, top, text) {
         if may_be_blank(e) {
             return true;
         }
@@ -184,7 +231,7 @@ pub fn first_illegal(edition: Edition, line: &[u8]) -> usize
     ensures { λ r. ⌜ r ≡ firstOf (lastOf edition) (legal edition (now (line .entry))) ⌝ }
 {
     let widths = widths();
-    let tops = tops_in(edition);
+    let tops = tops();
     let letters = letters_in(edition);
     let last = edition.last();
     let mut at = 0;

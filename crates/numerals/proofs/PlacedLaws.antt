@@ -1,11 +1,12 @@
 -- Texts placed in some bytes: what stands up to their end and behind it, and one after the other. Assumes nothing.
 use mathlib.Core.Path.{_≡_, sym, ap, _∙_}
-use mathlib.Core.List.{List, [], _++_, append-assoc, append-nil}
-use Prim.Native.Nat.{ℕ, _+_, _-_, _≤_}
+use mathlib.Core.List.{List, [], _∷_, _++_, append-assoc, append-nil}
+use Prim.Native.Nat.{ℕ, _+_, _<_, _≤_}
 use native.Mathlib.Nat.{add-zero}
+use native.Mathlib.Numerals.{add-one}
 use native.Mathlib.Omega.{arith}
-use lib.ListN.{length, take, drop, length-append, length-drop, take-append-drop}
-use lib.Seq.{length-take-le, take-append-seam, take-at, drop-at, drop-drop}
+use lib.ListN.{length, take, drop, set, length-append, length-drop, take-append-drop}
+use lib.Seq.{set-split, length-take-le, take-append-seam, take-at, drop-at, drop-drop}
 use Rattle.numerals.specs.Spelling.{placed}
 
 -- bytes placed in some others: what stands up to their end, and behind it
@@ -20,6 +21,10 @@ placed-behind at t before h =
 -- nothing placed changes nothing
 pub placed-none : (at : ℕ) (before : List ℕ) → placed at [] before ≡ before
 placed-none at before = rw (append-nil, add-zero) (take-append-drop at before)
+
+-- one byte placed is that byte stored
+pub placed-one : (at b : ℕ) (before : List ℕ) → at < length before → set before at b ≡ placed at (b ∷ []) before
+placed-one at b before h = set-split before at b h ∙ ap (λ (k : ℕ). take at before ++ b ∷ drop k before) (sym (add-one at)) ∙ sym (append-assoc (take at before) (b ∷ []) (drop (at + 1) before))
 
 -- a text placed within the bytes leaves as many as there were
 pub placed-length : (at : ℕ) (t before : List ℕ) → at + length t ≤ length before → length (placed at t before) ≡ length before

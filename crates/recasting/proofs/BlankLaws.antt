@@ -2,13 +2,12 @@
 use mathlib.Core.Path.{_≡_, refl, sym, ap, _∙_}
 use mathlib.Core.Bool.{Bool, true, false, cond}
 use mathlib.Core.List.{List, [], _++_, append-assoc, append-nil}
-use Prim.Native.Nat.{ℕ, _+_, _-_, _<_, _≤_}
+use Prim.Native.Nat.{ℕ, zero, suc, _+_, _-_, _<_, _≤_}
 use native.Mathlib.Nat.{add-sub-cancel-left, min-le-left}
 use native.Mathlib.Omega.{arith}
 use lib.ListN.{length, take, drop, length-take}
 use lib.Seq.{take-all, take-add, drop-drop}
-use Rattle.numerals.specs.Spelling.{spell, inBlanks, placed}
-use Rattle.numerals.specs.declared.Numeral.{Numeral}
+use Rattle.numerals.specs.Spelling.{placed}
 use Rattle.numerals.proofs.PlacedLaws.{placed-to, placed-behind}
 use Rattle.numerals.proofs.Spellings.{spelled-length}
 use Rattle.losses.specs.Losses.{noLosses, withLoss, lossesBelow, lossesOf}
@@ -16,10 +15,11 @@ use Rattle.losses.specs.declared.Losses.{Losses}
 use Rattle.losses.proofs.LossLaws.{below-first, below-lost, below-kept, below-all}
 use Rattle.layout.specs.declared.Edition.{Edition}
 use Rattle.layout.specs.declared.Edition.the-variants.{Four}
-use Rattle.layout.specs.Page.{widthOf, startOf, textOf, legalText}
+use Rattle.layout.specs.Page.{page, element, columns, widthOf, startOf, textOf, legalText}
 use Rattle.layout.specs.Records.{rowFrom}
 use Rattle.layout.proofs.Columns.{start-next, start-below, filled, narrow}
 use Rattle.layout.proofs.RecordLaws.{first, one-more}
+use Rattle.recasting.proofs.KeepLaws.{early-kept}
 use Rattle.recasting.specs.Recast.{lostText, lostAt, blanks, blankedText, blankedRow}
 
 -- one element, where it is lost and where it is not
@@ -27,9 +27,9 @@ module _ (x : Bool) where
   pub not-blanked : x ≡ false → (losses : Losses) (e : ℕ) (row put : List ℕ) → (row ≡ cond x put row) × (losses ≡ cond x (withLoss losses e) losses)
   not-blanked h losses e row put = rw h (refl, refl)
 
-  pub blanked : x ≡ true → (losses : Losses) (e at w : ℕ) (row : List ℕ) (m : Numeral) (after : List ℕ) → m ≡ inBlanks → after ≡ placed at (spell w m) row → (losses′ : Losses) → losses′ ≡ withLoss losses e →
+  pub blanked : x ≡ true → (losses : Losses) (e at w : ℕ) (row after : List ℕ) → after ≡ placed at (blanks w) row → (losses′ : Losses) → losses′ ≡ withLoss losses e →
       (after ≡ cond x (placed at (blanks w) row) row) × (losses′ ≡ cond x (withLoss losses e) losses)
-  blanked h losses e at w row m after f g losses′ k = rw h (g ∙ ap (λ (n : Numeral). placed at (spell w n) row) f, k)
+  blanked h losses e at w row after g losses′ k = rw h (g, k)
 
 module _ (from to : Edition) (xs : List ℕ) where
   -- the loop stands at element e, whose columns start at `at`
@@ -129,3 +129,17 @@ module _ (from to : Edition) (xs : List ℕ) where
 
       pub tested : (x : Bool) → x ≡ lostText from to e (take (at + w - at) (drop at row)) → x ≡ lostText from to e (textOf e xs)
       tested x f = f ∙ ap (lostText from to e) own-text
+
+  -- nothing before column 70 is lost, so that the loop may begin there
+  module _ (long : length xs ≡ 159) (each : (f : ℕ) → 1 ≤ f → f ≤ 101 → legalText from f (textOf f xs) ≡ true) (losses : Losses) (none : losses ≡ noLosses) where
+    past : (n e : ℕ) → e ≡ n + 1 → n ≤ 39 → Blanking xs (startOf e) e losses
+    past zero e q h = let one : e ≡ 1 = q in rw (one, first) (begins long losses none)
+    past (suc n) e q h =
+        let here : Blanking xs (startOf (n + 1)) (n + 1) losses = past n (n + 1) refl (omega arith) in
+        let kept-here : lostAt from to xs (n + 1) ≡ false = early-kept from to (n + 1) (textOf (n + 1) xs) (omega arith) (each (n + 1) (omega arith) (omega arith)) in
+        let next : e ≡ n + 1 + 1 = omega (arith, q) in
+        rw (next, start-next (n + 1)) (kept xs (startOf (n + 1)) (n + 1) losses here (widthOf (n + 1)) refl (omega arith) kept-here)
+
+    pub begins-at : Blanking xs 69 40 losses
+    unfolding startOf columns element page
+    begins-at = past 39 40 refl (omega arith)

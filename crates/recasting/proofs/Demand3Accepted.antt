@@ -26,7 +26,8 @@ use Rattle.recasting.specs.Meaning.{senseOf, sameSense}
 use Rattle.recasting.specs.Recast.{keeps, lostText, lostAt, digitOf, recastText, recastRecord}
 use Rattle.recasting.proofs.ResultLaws.{Plain, result, result-long, result-text, as-it-was, lost-blank, new-blank}
 use Rattle.recasting.proofs.ColumnLaws.{same-digits, Column, stays, moves, column}
-use Rattle.recasting.proofs.TiedLaws.{same-format, ties-kept}
+use Rattle.recasting.proofs.NeverLaws.{same}
+use Rattle.recasting.proofs.TiedLaws.{ties-kept}
 
 -- a text that is legal in one edition and not lost is legal in the other
 kept-legal : (from to : Edition) (e : ℕ) (t : List ℕ) → Plain e → mayBeBlank e ≡ true → lostText from to e t ≡ false → legalText to e t ≡ true
@@ -74,7 +75,7 @@ module _ (from to : Edition) (xs : List ℕ) (a : Acceptable from xs) where
   -- element 1 has the same texts in all editions
   legal-format : legal to (result from to xs a) 1 ≡ true
   unfolding legal element page
-  legal-format = ap (legalText to 1) (same-format from to xs a) ∙ by from to (a .lawful 1 (lit≤ tt) (omega (arith, last-above from)))
+  legal-format = ap (legalText to 1) (same from to xs a 1 refl) ∙ by from to (a .lawful 1 (lit≤ tt) (omega (arith, last-above from)))
     where
       by : (from to : Edition) → legalText from 1 (textOf 1 xs) ≡ true → legalText to 1 (textOf 1 xs) ≡ true
       by One One h = h

@@ -65,8 +65,8 @@ module _ (from to : Edition) (xs : List ℕ) (a : Acceptable from xs) where
   pub never-lost : (e : ℕ) → (among 1 6 7 8 e || among 14 46 65 65 e) ≡ true → lostAt from to xs e ≡ false
   never-lost e h =
       ⊎-elim
-      (among-cases (Never.Never from to xs a) 1 6 7 8 e (Never.format from to xs a) (Never.column-12 from to xs a) (Never.latitude from to xs a) (Never.longitude from to xs a))
-      (among-cases (Never.Never from to xs a) 14 46 65 65 e (Never.indicator from to xs a) (Never.weather-indicator from to xs a) (Never.version from to xs a) (Never.version from to xs a))
+      (among-cases (Never.Never from to xs a) 1 6 7 8 e (Never.never from to xs a 1 refl) (Never.column-12 from to xs a) (Never.never from to xs a 7 refl) (Never.never from to xs a 8 refl))
+      (among-cases (Never.Never from to xs a) 14 46 65 65 e (Never.never from to xs a 14 refl) (Never.never from to xs a 46 refl) (Never.version from to xs a) (Never.version from to xs a))
       (either-half _ _ h)
 
 -- the character that names an edition

@@ -31,9 +31,8 @@ use Rattle.recasting.specs.Lost.{Expressible, Lost}
 use Rattle.recasting.proofs.SenseLaws.{same-sense}
 use Rattle.recasting.proofs.ResultLaws.{Plain, result, result-long, result-beyond, as-it-was, lost-blank, new-blank}
 use Rattle.recasting.proofs.EndLaws.{nothing-there}
-use Rattle.recasting.proofs.NeverLaws.{shared, column-12}
+use Rattle.recasting.proofs.NeverLaws.{shared, column-12, same}
 use Rattle.recasting.proofs.ColumnLaws.{digit-there, digit-number, Column, stays, moves, column, same-there}
-use Rattle.recasting.proofs.TiedLaws.{same-latitude, same-longitude, same-air-sign, same-air, same-dew-point-sign, same-dew-point, same-sea-sign, same-sea, same-wet-bulb-sign, same-wet-bulb}
 use Rattle.recasting.proofs.Demand3Accepted.{every-legal}
 
 -- two places with the same numbers mean the same
@@ -110,7 +109,7 @@ module _ (from to : Edition) (xs : List ℕ) (a : Acceptable from xs) where
   -- the place: the same two numbers
   place-kept : withoutDigit (placeOf to (textOf 6 (result from to xs a)) (textOf 7 (result from to xs a)) (textOf 8 (result from to xs a))) ≡
       withoutDigit (placeOf from (textOf 6 xs) (textOf 7 xs) (textOf 8 xs))
-  place-kept = rw (same-latitude from to xs a, same-longitude from to xs a) (by (column from to xs a))
+  place-kept = rw (same from to xs a 7 refl, same from to xs a 8 refl) (by (column from to xs a))
     where
       by : Column from to xs a → withoutDigit (placeOf to (textOf 6 (result from to xs a)) (textOf 7 xs) (textOf 8 xs)) ≡ withoutDigit (placeOf from (textOf 6 xs) (textOf 7 xs) (textOf 8 xs))
       by (stays w e) =
@@ -133,10 +132,10 @@ module _ (from to : Edition) (xs : List ℕ) (a : Acceptable from xs) where
       ⊎-elim
       (among-cases Kept 6 16 18 28 l
       place-kept
-      (pair-kept 16 17 (same-air-sign from to xs a) (same-air from to xs a))
-      (pair-kept 18 19 (same-dew-point-sign from to xs a) (same-dew-point from to xs a))
-      (pair-kept 28 29 (same-sea-sign from to xs a) (same-sea from to xs a)))
-      (λ m. at-number Kept l 50 m (pair-kept 50 51 (same-wet-bulb-sign from to xs a) (same-wet-bulb from to xs a)))
+      (pair-kept 16 17 (same from to xs a 16 refl) (same from to xs a 17 refl))
+      (pair-kept 18 19 (same from to xs a 18 refl) (same from to xs a 19 refl))
+      (pair-kept 28 29 (same from to xs a 28 refl) (same from to xs a 29 refl)))
+      (λ m. at-number Kept l 50 m (pair-kept 50 51 (same from to xs a 50 refl) (same from to xs a 51 refl)))
       (either-half _ _ h)
 
   -- an element that is filled and not lost means what it meant

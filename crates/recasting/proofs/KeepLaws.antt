@@ -2,16 +2,18 @@
 use mathlib.Core.Path.{_≡_, refl, sym, ap, _∙_}
 use mathlib.Core.Bool.{Bool, true, false, not, _&&_, _||_}
 use mathlib.Core.List.{List}
-use Prim.Native.Nat.{ℕ}
-use borrow.Author.Tests.{eq-eqb, ne-eqb}
+use Prim.Native.Nat.{ℕ, _≤_}
+use native.Mathlib.Omega.{arith}
+use borrow.Author.Tests.{eq-eqb, ne-eqb, eqb-true, eqb-false}
 use lib.Dec.{eqb}
 use Rattle.text.specs.Bytes.{blank, number}
 use Rattle.text.specs.Texts.{allows}
 use Rattle.text.specs.declared.Texts.{Texts}
 use Rattle.text.proofs.Among.{neither-first, neither-second}
 use Rattle.layout.specs.declared.Edition.{Edition}
-use Rattle.layout.specs.Letters.{lettered}
+use Rattle.layout.specs.Letters.{lettered, lookup}
 use Rattle.layout.specs.Page.{textsOf, mayBeBlank, legalText}
+use Rattle.layout.proofs.Alike.{early-alike, added-alike}
 use Rattle.recasting.specs.declared.Sense.{Sense}
 use Rattle.recasting.specs.declared.Sense.the-variants.{Alike}
 use Rattle.recasting.specs.Meaning.{sourceSense, platformSense, countrySense, hasSenses, senseOf, senseNumber, sameSense}
@@ -58,17 +60,22 @@ module _ (from to : Edition) (e : ℕ) (t : List ℕ) where
   unfolding keeps
   kept-version h = rw h
 
-  module _ (a : e ≡ 6 → ⊥) (b : e ≡ 65 → ⊥) (letter : ℕ) (row : lettered letter ≡ textsOf to e) (x : Bool) (f : x ≡ allows (lettered letter) t) where
-    allowed : allows (textsOf to e) t ≡ x
-    allowed = ap (λ (s : Texts). allows s t) (sym row) ∙ sym f
+  module _ (a : e ≡ 6 → ⊥) (b : e ≡ 65 → ⊥) (letter : ℕ) (row : lettered letter ≡ textsOf to e) where
+    allowed : (x : Bool) → x ≡ allows (lettered letter) t → allows (textsOf to e) t ≡ x
+    allowed x f = ap (λ (s : Texts). allows s t) (sym row) ∙ sym f
 
-    pub not-allowed : x ≡ false → x ≡ keeps from to e t
+    pub not-allowed : (x : Bool) → x ≡ allows (lettered letter) t → x ≡ false → x ≡ keeps from to e t
     unfolding keeps
-    not-allowed h = rw (ne-eqb e 6 a, ne-eqb e 65 b, allowed, h)
+    not-allowed x f h = rw (ne-eqb e 6 a, ne-eqb e 65 b, allowed x f, h)
 
-    pub in-sense : x ≡ true → (y : Bool) → y ≡ sameSense (senseOf from e t) (senseOf to e t) → y ≡ keeps from to e t
+    pub in-sense : (x : Bool) → x ≡ allows (lettered letter) t → x ≡ true → (y : Bool) → y ≡ sameSense (senseOf from e t) (senseOf to e t) → y ≡ keeps from to e t
     unfolding keeps
-    in-sense h y g = rw (ne-eqb e 6 a, ne-eqb e 65 b, allowed, h) g
+    in-sense x f h y g = rw (ne-eqb e 6 a, ne-eqb e 65 b, allowed x f, h) g
+
+    -- an element that the target does not have has no text there
+    pub not-had : letter ≡ 65 → false ≡ keeps from to e t
+    unfolding lettered lookup allows
+    not-had h = not-allowed false (ap (λ (l : ℕ). allows (lettered l) t) (sym h)) refl
 
   -- the same texts and one sense: what is legal in one edition is kept in the other
   pub alike-kept : textsOf from e ≡ textsOf to e → hasSenses e ≡ false → legalText from e t ≡ true → lostText from to e t ≡ false
@@ -85,8 +92,46 @@ module _ (from to : Edition) (e : ℕ) (t : List ℕ) where
       by false true q l = kept-here l (eqb e 6) (eqb e 65)
       by false false q l = kept-here l (eqb e 6) (eqb e 65)
 
-  pub not-lost : (was becomes : ℕ) → lettered was ≡ textsOf from e → lettered becomes ≡ textsOf to e → was ≡ becomes → hasSenses e ≡ false → legalText from e t ≡ true → false ≡ lostText from to e t
-  not-lost was becomes f g h none legal = sym (alike-kept (sym f ∙ ap lettered h ∙ g) none legal)
+  -- column 12 and column 111 have rules of their own
+  by-rule : (b x : Bool) → x ≡ true → (not b && not x) ≡ false
+  by-rule true x h = refl
+  by-rule false x h = rw h
+
+  pub column-12-kept : e ≡ 6 → lostText from to e t ≡ false
+  unfolding lostText
+  column-12-kept h = by-rule (blank t) (keeps from to e t) (sym (kept-six h))
+
+  pub version-kept : e ≡ 65 → lostText from to e t ≡ false
+  unfolding lostText
+  version-kept h = by-rule (blank t) (keeps from to e t) (sym (kept-version h))
+
+  -- no element before column 70 is lost, and none of columns 81 to 109
+  pub early-kept : e ≤ 39 → legalText from e t ≡ true → lostText from to e t ≡ false
+  early-kept h legal = by (eqb e 6) refl
+    where
+      by : (x : Bool) → eqb e 6 ≡ x → lostText from to e t ≡ false
+      by true p = column-12-kept (eqb-true e 6 p)
+      by false p = alike-kept (early-alike e h (eqb-false e 6 p) from to) (rw (ne-eqb e 40 (λ q. omega arith), ne-eqb e 41 (λ q. omega arith), ne-eqb e 43 (λ q. omega arith))) legal
+
+  pub added-kept : 44 ≤ e → e ≤ 63 → legalText from e t ≡ true → lostText from to e t ≡ false
+  added-kept l h legal = alike-kept (added-alike e l h from to) (rw (ne-eqb e 40 (λ q. omega arith), ne-eqb e 41 (λ q. omega arith), ne-eqb e 43 (λ q. omega arith))) legal
+
+  pub same-letter : (was becomes : ℕ) → lettered was ≡ textsOf from e → lettered becomes ≡ textsOf to e → was ≡ becomes → hasSenses e ≡ false → legalText from e t ≡ true → lostText from to e t ≡ false
+  same-letter was becomes f g h none legal = alike-kept (sym f ∙ ap lettered h ∙ g) none legal
+
+  -- blank, or one of the target's texts in the one sense that the element has
+  pub in-target : (becomes : ℕ) → lettered becomes ≡ textsOf to e → hasSenses e ≡ false → (blank t || allows (lettered becomes) t) ≡ true → lostText from to e t ≡ false
+  unfolding lostText keeps
+  in-target becomes g none h = by (blank t) h
+    where
+      kept-here : allows (lettered becomes) t ≡ true → (x y : Bool) → not (x || (y || (allows (textsOf to e) t && sameSense (senseOf from e t) (senseOf to e t)))) ≡ false
+      kept-here l true y = refl
+      kept-here l false true = refl
+      kept-here l false false = rw (← g, l, always-same e none from to t)
+
+      by : (b : Bool) → (b || allows (lettered becomes) t) ≡ true → (not b && not (keeps from to e t)) ≡ false
+      by true l = refl
+      by false l = kept-here l (eqb e 6) (eqb e 65)
 
   pub blank-kept : (b : Bool) → b ≡ blank t → b ≡ true → false ≡ lostText from to e t
   unfolding lostText

@@ -1,105 +1,80 @@
--- Elements that are never lost: all editions have the same texts for them, and take them in one sense. Assumes nothing.
+-- Elements that are never lost: all editions have the same texts for them and take them in one sense, or they have a rule of their own. Assumes nothing.
 use mathlib.Core.Path.{_≡_, refl}
-use mathlib.Core.Bool.{Bool, true, false, not, _&&_}
+use mathlib.Core.Bool.{Bool, true, false, not, _&&_, _||_}
 use mathlib.Core.Logic.{⊎-elim}
 use mathlib.Core.List.{List}
 use Prim.Native.Nat.{ℕ, _≤_}
 use native.Mathlib.Omega.{arith}
-use lib.Dec.{lit≤}
-use Rattle.text.specs.Bytes.{blank}
+use borrow.Author.Tests.{leb-true, ne-eqb, not-true}
+use lib.Dec.{eqb, leb}
+use Rattle.text.specs.Bytes.{between}
 use Rattle.text.specs.Texts.{among}
-use Rattle.text.specs.declared.Texts.the-variants.{Within, Either, OneOf}
 use Rattle.text.proofs.Among.{either-half, among-cases, at-number}
+use Rattle.text.proofs.Ways.{and-first, and-second}
 use Rattle.layout.specs.declared.Edition.{Edition}
-use Rattle.layout.specs.Page.{page, element, textOf}
+use Rattle.layout.specs.Page.{textOf, legal}
 use Rattle.layout.proofs.Beyond.{last-above}
 use Rattle.checking.specs.Acceptable.{Acceptable}
 use Rattle.recasting.specs.Meaning.{shares}
-use Rattle.recasting.specs.Recast.{keeps, lostText, lostAt}
-use Rattle.recasting.proofs.ResultLaws.{Plain, result, never-lost, as-it-was}
+use Rattle.recasting.specs.Recast.{lostAt}
+use Rattle.recasting.proofs.KeepLaws.{early-kept, added-kept, version-kept}
+use Rattle.recasting.proofs.ResultLaws.{result, as-it-was}
+
+-- before column 70 but for column 12, and in columns 81 to 109
+abbrev first : ℕ → Bool
+first e = between 1 39 e && not (eqb e 6)
+
+abbrev pub steady : ℕ → Bool
+steady e = first e || between 44 63 e
 
 module _ (from to : Edition) (xs : List ℕ) (a : Acceptable from xs) where
   abbrev pub Never : ℕ → Type 0
   Never e = lostAt from to xs e ≡ false
 
-  pub format : Never 1
-  unfolding element page
-  format = never-lost from to xs a 1 (Within 3 5) refl refl refl refl (lit≤ tt) (lit≤ tt)
+  early : (e : ℕ) → between 1 39 e ≡ true → Never e
+  unfolding legal
+  early e h = let low : 1 ≤ e = leb-true 1 e (and-first _ _ h) in early-kept from to e (textOf e xs) (leb-true e 39 (and-second (leb 1 e) _ h)) (a .lawful e low (omega (arith, last-above from, leb-true e 39 (and-second (leb 1 e) _ h))))
 
-  pub latitude : Never 7
-  unfolding element page
-  latitude = never-lost from to xs a 7 (Within 0 900) refl refl refl refl (lit≤ tt) (lit≤ tt)
+  added : (e : ℕ) → between 44 63 e ≡ true → Never e
+  unfolding legal
+  added e h =
+      let low : 44 ≤ e = leb-true 44 e (and-first _ _ h) in
+      let high : e ≤ 63 = leb-true e 63 (and-second (leb 44 e) _ h) in
+      added-kept from to e (textOf e xs) low high (a .lawful e (omega arith) (omega (arith, last-above from)))
 
-  pub longitude : Never 8
-  unfolding element page
-  longitude = never-lost from to xs a 8 (Within 0 1800) refl refl refl refl (lit≤ tt) (lit≤ tt)
-
-  pub indicator : Never 14
-  unfolding element page
-  indicator = never-lost from to xs a 14 (OneOf 0 1 3 4) refl refl refl refl (lit≤ tt) (lit≤ tt)
-
-  pub speed : Never 15
-  unfolding element page
-  speed = never-lost from to xs a 15 (Within 0 99) refl refl refl refl (lit≤ tt) (lit≤ tt)
-
-  pub air-sign : Never 16
-  unfolding element page
-  air-sign = never-lost from to xs a 16 (Within 0 1) refl refl refl refl (lit≤ tt) (lit≤ tt)
-
-  pub air : Never 17
-  unfolding element page
-  air = never-lost from to xs a 17 (Within 0 999) refl refl refl refl (lit≤ tt) (lit≤ tt)
-
-  pub dew-point-sign : Never 18
-  unfolding element page
-  dew-point-sign = never-lost from to xs a 18 (Either 0 2 5 7) refl refl refl refl (lit≤ tt) (lit≤ tt)
-
-  pub dew-point : Never 19
-  unfolding element page
-  dew-point = never-lost from to xs a 19 (Within 0 999) refl refl refl refl (lit≤ tt) (lit≤ tt)
-
-  pub sea-sign : Never 28
-  unfolding element page
-  sea-sign = never-lost from to xs a 28 (Within 0 1) refl refl refl refl (lit≤ tt) (lit≤ tt)
-
-  pub sea : Never 29
-  unfolding element page
-  sea = never-lost from to xs a 29 (Within 0 999) refl refl refl refl (lit≤ tt) (lit≤ tt)
-
-  pub weather-indicator : Never 46
-  unfolding element page
-  weather-indicator = never-lost from to xs a 46 (OneOf 1 4 7 7) refl refl refl refl (lit≤ tt) (lit≤ tt)
-
-  pub wet-bulb-sign : Never 50
-  unfolding element page
-  wet-bulb-sign = never-lost from to xs a 50 (Either 0 2 5 7) refl refl refl refl (lit≤ tt) (lit≤ tt)
-
-  pub wet-bulb : Never 51
-  unfolding element page
-  wet-bulb = never-lost from to xs a 51 (Within 0 999) refl refl refl refl (lit≤ tt) (lit≤ tt)
+  pub never : (e : ℕ) → steady e ≡ true → Never e
+  never e h = ⊎-elim (λ k. early e (and-first (between 1 39 e) (not (eqb e 6)) k)) (added e) (either-half (first e) (between 44 63 e) h)
 
   -- columns 12 and 111 have rules of their own
-  by-rule : (b x : Bool) → x ≡ true → (not b && not x) ≡ false
-  by-rule true x h = refl
-  by-rule false x h = rw h
-
   pub column-12 : Never 6
-  unfolding lostText keeps
-  column-12 = by-rule (blank (textOf 6 xs)) (keeps from to 6 (textOf 6 xs)) refl
+  column-12 = early 6 refl
 
   pub version : Never 65
-  unfolding lostText keeps
-  version = by-rule (blank (textOf 65 xs)) (keeps from to 65 (textOf 65 xs)) refl
+  version = version-kept from to 65 (textOf 65 xs) refl
 
   -- what shares a reading is never lost
   pub shared : (e : ℕ) → shares e ≡ true → Never e
   shared e = by (among 7 8 7 8 e) (among 17 19 29 51 e) refl refl
     where
       by : (x y : Bool) → among 7 8 7 8 e ≡ x → among 17 19 29 51 e ≡ y → shares e ≡ true → Never e
-      by true y p q = λ h. among-cases Never 7 8 7 8 e latitude longitude latitude longitude p
-      by false true p q = λ h. among-cases Never 17 19 29 51 e air dew-point sea wet-bulb q
-      by false false p q = rw (p, q) (λ h. ⊎-elim (among-cases Never 6 16 18 28 e column-12 air-sign dew-point-sign sea-sign) (λ m. at-number Never e 50 m wet-bulb-sign) (either-half _ _ h))
+      by true y p q = λ h. among-cases Never 7 8 7 8 e (never 7 refl) (never 8 refl) (never 7 refl) (never 8 refl) p
+      by false true p q = λ h. among-cases Never 17 19 29 51 e (never 17 refl) (never 19 refl) (never 29 refl) (never 51 refl) q
+      by false false p q =
+          rw (p, q) (λ h. ⊎-elim (among-cases Never 6 16 18 28 e column-12 (never 16 refl) (never 18 refl) (never 28 refl)) (λ m. at-number Never e 50 m (never 50 refl)) (either-half _ _ h))
 
-  -- an element of the first 85 that is never lost keeps its characters
-  pub same : (e : ℕ) → Plain e → 1 ≤ e → e ≤ 85 → Never e → textOf e (result from to xs a) ≡ textOf e xs
-  same e plain h l n = as-it-was from to xs a e plain h (omega (arith, last-above from)) (omega (arith, last-above to)) n
+  -- a steady element keeps its characters
+  pub same : (e : ℕ) → steady e ≡ true → textOf e (result from to xs a) ≡ textOf e xs
+  same e h =
+      ⊎-elim
+      (λ k.
+      let inside : between 1 39 e ≡ true = and-first (between 1 39 e) (not (eqb e 6)) k in
+      let high : e ≤ 39 = leb-true e 39 (and-second (leb 1 e) _ inside) in
+      kept (leb-true 1 e (and-first _ _ inside)) (omega arith) (not-true _ (and-second (between 1 39 e) (not (eqb e 6)) k)))
+      (λ k.
+      let low : 44 ≤ e = leb-true 44 e (and-first _ _ k) in
+      let high : e ≤ 63 = leb-true e 63 (and-second (leb 44 e) _ k) in
+      kept (omega arith) high (ne-eqb e 6 (λ q. omega arith)))
+      (either-half (first e) (between 44 63 e) h)
+    where
+      kept : 1 ≤ e → e ≤ 63 → eqb e 6 ≡ false → textOf e (result from to xs a) ≡ textOf e xs
+      kept low high six = as-it-was from to xs a e (six, ne-eqb e 65 (λ q. omega arith)) low (omega (arith, last-above from)) (omega (arith, last-above to)) (never e h)

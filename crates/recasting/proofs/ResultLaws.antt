@@ -1,24 +1,19 @@
 -- The texts of the recast record: where an element is kept it is what it was, where it is lost it is blank. Assumes nothing.
-use mathlib.Core.Path.{_≡_, refl, sym, ap, _∙_}
+use mathlib.Core.Path.{_≡_, refl, ap, _∙_}
 use mathlib.Core.Bool.{Bool, true, false}
 use mathlib.Core.List.{List, []}
 use Prim.Native.Nat.{ℕ, _<_, _≤_}
-use native.Mathlib.Omega.{arith}
 use borrow.Author.Tests.{leb-true, leb-false}
 use lib.Dec.{eqb, leb}
 use lib.ListN.{length}
 use Rattle.text.specs.Bytes.{every, blank}
-use Rattle.text.specs.declared.Texts.{Texts}
 use Rattle.layout.specs.declared.Edition.{Edition}
 use Rattle.layout.specs.Editions.{lengthOf, lastOf}
-use Rattle.layout.specs.Page.{element, widthOf, textOf, legal}
-use Rattle.layout.proofs.Beyond.{last-above, text-none}
-use Rattle.layout.proofs.Elements.{in-each}
+use Rattle.layout.specs.Page.{element, widthOf, textOf}
+use Rattle.layout.proofs.Beyond.{text-none}
 use Rattle.layout.proofs.RecordLaws.{record-long, record-text}
 use Rattle.checking.specs.Acceptable.{Acceptable}
-use Rattle.recasting.specs.Meaning.{hasSenses}
 use Rattle.recasting.specs.Recast.{lostAt, widened, recastText, recastRecord}
-use Rattle.recasting.proofs.KeepLaws.{alike-kept}
 use Rattle.recasting.proofs.WidenLaws.{blanks-blank, own-kept, others-blank}
 use Rattle.recasting.proofs.MakeLaws.{recast-wide}
 
@@ -62,9 +57,3 @@ module _ (from to : Edition) (xs : List ℕ) (a : Acceptable from xs) where
     -- one that the target has and the record does not
     pub new-blank : 1 ≤ e → e ≤ lastOf to → lastOf from < e → lostAt from to xs e ≡ false → blank (textOf e result) ≡ true
     new-blank h l m k = ap blank (as-widened h l k) ∙ others-blank from xs (a .full) e m
-
-  -- an element whose texts are the same in all editions, and that all take in one sense, is never lost
-  module _ (e : ℕ) (s : Texts) (in1 : element e .in1 ≡ s) (in3 : element e .in3 ≡ s) (in4 : element e .in4 ≡ s) (one : hasSenses e ≡ false) (h : 1 ≤ e) (l : e ≤ 85) where
-    pub never-lost : lostAt from to xs e ≡ false
-    unfolding legal
-    never-lost = alike-kept from to e (textOf e xs) (in-each from e s in1 in3 in4 ∙ sym (in-each to e s in1 in3 in4)) one (a .lawful e h (omega (arith, last-above from)))

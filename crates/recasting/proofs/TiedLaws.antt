@@ -17,7 +17,7 @@ use Rattle.checking.specs.Acceptable.{Acceptable}
 use Rattle.hemispheres.specs.Digits.{keepsTie, crosses}
 use Rattle.recasting.specs.Recast.{lostAt}
 use Rattle.recasting.proofs.ResultLaws.{result, result-beyond, as-it-was, lost-blank, new-blank}
-use Rattle.recasting.proofs.NeverLaws as Never
+use Rattle.recasting.proofs.NeverLaws.{steady, same}
 use Rattle.recasting.proofs.ColumnLaws.{digit-there, digit-number, Column, stays, moves, column, same-there}
 
 -- tie 2: where the place is blank, between editions that do not cross, and with a digit that keeps it
@@ -50,44 +50,8 @@ module _ (from to : Edition) (xs : List ℕ) (a : Acceptable from xs) where
   abbrev Same : ℕ → Type 0
   Same e = textOf e (result from to xs a) ≡ textOf e xs
 
-  pub same-format : Same 1
-  same-format = Never.same from to xs a 1 (refl, refl) (lit≤ tt) (lit≤ tt) (Never.format from to xs a)
-
-  pub same-latitude : Same 7
-  same-latitude = Never.same from to xs a 7 (refl, refl) (lit≤ tt) (lit≤ tt) (Never.latitude from to xs a)
-
-  pub same-longitude : Same 8
-  same-longitude = Never.same from to xs a 8 (refl, refl) (lit≤ tt) (lit≤ tt) (Never.longitude from to xs a)
-
-  pub same-indicator : Same 14
-  same-indicator = Never.same from to xs a 14 (refl, refl) (lit≤ tt) (lit≤ tt) (Never.indicator from to xs a)
-
-  pub same-speed : Same 15
-  same-speed = Never.same from to xs a 15 (refl, refl) (lit≤ tt) (lit≤ tt) (Never.speed from to xs a)
-
-  pub same-air-sign : Same 16
-  same-air-sign = Never.same from to xs a 16 (refl, refl) (lit≤ tt) (lit≤ tt) (Never.air-sign from to xs a)
-
-  pub same-air : Same 17
-  same-air = Never.same from to xs a 17 (refl, refl) (lit≤ tt) (lit≤ tt) (Never.air from to xs a)
-
-  pub same-dew-point-sign : Same 18
-  same-dew-point-sign = Never.same from to xs a 18 (refl, refl) (lit≤ tt) (lit≤ tt) (Never.dew-point-sign from to xs a)
-
-  pub same-dew-point : Same 19
-  same-dew-point = Never.same from to xs a 19 (refl, refl) (lit≤ tt) (lit≤ tt) (Never.dew-point from to xs a)
-
-  pub same-sea-sign : Same 28
-  same-sea-sign = Never.same from to xs a 28 (refl, refl) (lit≤ tt) (lit≤ tt) (Never.sea-sign from to xs a)
-
-  pub same-sea : Same 29
-  same-sea = Never.same from to xs a 29 (refl, refl) (lit≤ tt) (lit≤ tt) (Never.sea from to xs a)
-
-  pub same-wet-bulb-sign : Same 50
-  same-wet-bulb-sign = Never.same from to xs a 50 (refl, refl) (lit≤ tt) (lit≤ tt) (Never.wet-bulb-sign from to xs a)
-
-  pub same-wet-bulb : Same 51
-  same-wet-bulb = Never.same from to xs a 51 (refl, refl) (lit≤ tt) (lit≤ tt) (Never.wet-bulb from to xs a)
+  pub unchanged : (e : ℕ) → steady e ≡ true → Same e
+  unchanged e = same from to xs a e
 
   -- RWS is what it was, or blank
   speed-or-blank : (blank (textOf 93 (result from to xs a)) ≡ true) ⊎ Same 93
@@ -102,14 +66,14 @@ module _ (from to : Edition) (xs : List ℕ) (a : Acceptable from xs) where
 
   place-tied : placeTie (textOf 6 (result from to xs a)) (textOf 7 (result from to xs a)) (textOf 8 (result from to xs a)) ≡ true
   unfolding placeTie tie
-  place-tied = rw (same-there from to xs a, same-latitude, same-longitude) (a .tied 1 (lit≤ tt) (lit≤ tt))
+  place-tied = rw (same-there from to xs a, (unchanged 7 refl), (unchanged 8 refl)) (a .tied 1 (lit≤ tt) (lit≤ tt))
 
   was : octantTie from (textOf 6 xs) (textOf 8 xs) ≡ true
   unfolding tie
   was = a .tied 2 (lit≤ tt) (lit≤ tt)
 
   octant-tied : octantTie to (textOf 6 (result from to xs a)) (textOf 8 (result from to xs a)) ≡ true
-  octant-tied = ap (octantTie to (textOf 6 (result from to xs a))) same-longitude ∙ by (column from to xs a)
+  octant-tied = ap (octantTie to (textOf 6 (result from to xs a))) (unchanged 8 refl) ∙ by (column from to xs a)
     where
       by : Column from to xs a → octantTie to (textOf 6 (result from to xs a)) (textOf 8 xs) ≡ true
       by (stays w e) = ap (λ (t : List ℕ). octantTie to t (textOf 8 xs)) e ∙ ⊎-elim (λ c. within-tied from to (textOf 6 xs) (textOf 8 xs) c was) (λ b. tied-blank to (textOf 6 xs) (textOf 8 xs) b) w
@@ -120,23 +84,23 @@ module _ (from to : Edition) (xs : List ℕ) (a : Acceptable from xs) where
   sign-tied e f p q h = ap (λ (t : List ℕ). signTie t (textOf f (result from to xs a))) p ∙ ap (signTie (textOf e xs)) q ∙ h
 
   wind-tied : (e : ℕ) → Same e → windTie (textOf e xs) (textOf 14 xs) ≡ true → windTie (textOf e (result from to xs a)) (textOf 14 (result from to xs a)) ≡ true
-  wind-tied e p h = ap (λ (t : List ℕ). windTie t (textOf 14 (result from to xs a))) p ∙ ap (windTie (textOf e xs)) same-indicator ∙ h
+  wind-tied e p h = ap (λ (t : List ℕ). windTie t (textOf 14 (result from to xs a))) p ∙ ap (windTie (textOf e xs)) (unchanged 14 refl) ∙ h
 
   digits-tied : digitTie (textOf 1 xs) (textOf 17 xs) (textOf 19 xs) (textOf 29 xs) (textOf 51 xs) ≡ true →
       digitTie (textOf 1 (result from to xs a)) (textOf 17 (result from to xs a)) (textOf 19 (result from to xs a)) (textOf 29 (result from to xs a)) (textOf 51 (result from to xs a)) ≡ true
-  digits-tied h = rw (same-format, same-air, same-dew-point, same-sea, same-wet-bulb) h
+  digits-tied h = rw ((unchanged 1 refl), (unchanged 17 refl), (unchanged 19 refl), (unchanged 29 refl), (unchanged 51 refl)) h
 
   pub ties-kept : (k : ℕ) → 1 ≤ k → k ≤ 9 → tie to (result from to xs a) k ≡ true
   unfolding tie
   ties-kept zero h l = absurd (omega arith)
   ties-kept (suc zero) h l = place-tied
   ties-kept (suc (suc zero)) h l = octant-tied
-  ties-kept (suc (suc (suc zero))) h l = sign-tied 16 17 same-air-sign same-air (a .tied 3 (lit≤ tt) (lit≤ tt))
-  ties-kept (suc (suc (suc (suc zero)))) h l = sign-tied 18 19 same-dew-point-sign same-dew-point (a .tied 4 (lit≤ tt) (lit≤ tt))
-  ties-kept (suc (suc (suc (suc (suc zero))))) h l = sign-tied 28 29 same-sea-sign same-sea (a .tied 5 (lit≤ tt) (lit≤ tt))
-  ties-kept (suc (suc (suc (suc (suc (suc zero)))))) h l = sign-tied 50 51 same-wet-bulb-sign same-wet-bulb (a .tied 6 (lit≤ tt) (lit≤ tt))
+  ties-kept (suc (suc (suc zero))) h l = sign-tied 16 17 (unchanged 16 refl) (unchanged 17 refl) (a .tied 3 (lit≤ tt) (lit≤ tt))
+  ties-kept (suc (suc (suc (suc zero)))) h l = sign-tied 18 19 (unchanged 18 refl) (unchanged 19 refl) (a .tied 4 (lit≤ tt) (lit≤ tt))
+  ties-kept (suc (suc (suc (suc (suc zero))))) h l = sign-tied 28 29 (unchanged 28 refl) (unchanged 29 refl) (a .tied 5 (lit≤ tt) (lit≤ tt))
+  ties-kept (suc (suc (suc (suc (suc (suc zero)))))) h l = sign-tied 50 51 (unchanged 50 refl) (unchanged 51 refl) (a .tied 6 (lit≤ tt) (lit≤ tt))
   ties-kept (suc (suc (suc (suc (suc (suc (suc zero))))))) h l = digits-tied (a .tied 7 (lit≤ tt) (lit≤ tt))
-  ties-kept (suc (suc (suc (suc (suc (suc (suc (suc zero)))))))) h l = wind-tied 15 same-speed (a .tied 8 (lit≤ tt) (lit≤ tt))
+  ties-kept (suc (suc (suc (suc (suc (suc (suc (suc zero)))))))) h l = wind-tied 15 (unchanged 15 refl) (a .tied 8 (lit≤ tt) (lit≤ tt))
   ties-kept (suc (suc (suc (suc (suc (suc (suc (suc (suc zero))))))))) h l =
       ⊎-elim (no-speed (textOf 93 (result from to xs a)) (textOf 14 (result from to xs a))) (λ s. wind-tied 93 s (a .tied 9 (lit≤ tt) (lit≤ tt))) speed-or-blank
   ties-kept (suc (suc (suc (suc (suc (suc (suc (suc (suc (suc k)))))))))) h l = absurd (omega arith)

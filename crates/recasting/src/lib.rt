@@ -9,8 +9,7 @@ use layout::Named;
 use layout::Refusal;
 use layout::page;
 use losses::Losses;
-use numerals::Numeral;
-ghost use mathlib.Core.Bool.{true, cond};
+ghost use mathlib.Core.Bool.{true, false, cond};
 ghost use mathlib.Core.Path.{_≡_};
 ghost use Prim.Native.Nat.{ℕ, _+_, _≤_};
 ghost use lib.ListN.{length};
@@ -198,19 +197,38 @@ fn is_kept(from: Edition, to: Edition, e: usize, letter: u8, text: &[u8]) -> boo
     if e == 65 {
         return true;
     }
+    // an element that the target does not have
+    if letter == b'A' {
+        return false;
+    }
     page::is_lettered(letter, text) && is_same_sense(from, to, e, text)
 }
 
-// Is the text of element e lost? Most elements have the same texts in both editions, which their
-// letters say, and need no look at the text.
+// Is the text of element e surely blank or kept? Most elements have the same texts in both editions,
+// which their letters say, and most texts of one column are plainly in the target too.
+fn is_plain(from: Edition, to: Edition, e: usize, was: u8, becomes: u8, text: &[u8]) -> bool
+    requires { ⌜ (lettered was ≡ textsOf from e) × ((lettered becomes ≡ textsOf to e) × (legalText from e (now text) ≡ true)) ⌝ }
+    ensures { λ r. ⌜ (r ≡ true → lostText from to e (now (text .entry)) ≡ false) ⌝ }
+{
+    if has_senses(e) {
+        return false;
+    }
+    if was == becomes {
+        return true;
+    }
+    if text.len() == 1 {
+        return page::stands(becomes, text[0]);
+    }
+    false
+}
+
+// Is the text of element e lost?
 fn is_lost(from: Edition, to: Edition, e: usize, was: u8, becomes: u8, text: &[u8]) -> bool
     requires { ⌜ (length (now text) ≤ 7) × ((lettered was ≡ textsOf from e) × ((lettered becomes ≡ textsOf to e) × (legalText from e (now text) ≡ true))) ⌝ }
     ensures { λ r. ⌜ r ≡ lostText from to e (now (text .entry)) ⌝ }
 {
-    if was == becomes {
-        if !has_senses(e) {
-            return false;
-        }
+    if is_plain(from, to, e, was, becomes, text) {
+        return false;
     }
     if text::is_blank(text) {
         return false;
@@ -234,11 +252,12 @@ fn blank_one(
     if !lost {
         return losses;
     }
-    numerals::put(row, at, width, Numeral::blanks());
+    numerals::blank(row, at, width);
     losses.with(e)
 }
 
-// Blanks the elements that are lost, and names them.
+// Blanks the elements that are lost, and names them. The editions differ from column 70 on, where
+// element 40 stands, and in column 12, which is never lost.
 fn blank_lost(from: Edition, to: Edition, row: &mut [u8]) -> Losses
     requires { ⌜ (length (now row) ≡ 159) × ((e : ℕ) → 1 ≤ e → e ≤ 101 → legalText from e (textOf e (now row)) ≡ true) ⌝ }
     ensures { λ r. ⌜ now (row .exit) ≡ blankedRow from to (now (row .entry)) 1 101 ⌝ }
@@ -248,8 +267,8 @@ fn blank_lost(from: Edition, to: Edition, row: &mut [u8]) -> Losses
     let letters = page::letters_in(from);
     let targets = page::letters_in(to);
     let mut losses = Losses::none();
-    let mut at = 0;
-    let mut e = 1;
+    let mut at = 69;
+    let mut e = 40;
     while e <= 101 {
         let width = page::digit(widths[e]);
         let lost = is_lost(from, to, e, letters[e], targets[e], &row[at..at + width]);

@@ -68,6 +68,14 @@ none-of-all p n f = none (firstOf n p) (looked p 1 n)
     none q (nowhere g) = refl
     none q (lowest r a b x g) = absurd (true≢false (sym (f r a b) ∙ x))
 
+-- and where none is found the test passes at each place
+pub all-of-none : (p : ℕ → Bool) (k n : ℕ) → 1 ≤ k → firstFrom p k n ≡ 0 → (j : ℕ) → k ≤ j → j < k + n → p j ≡ true
+all-of-none p k n l z j = all (firstFrom p k n) z (looked p k n)
+  where
+    all : (q : ℕ) → q ≡ 0 → Looked p k n q → k ≤ j → j < k + n → p j ≡ true
+    all q e (nowhere f) = f j
+    all q e (lowest r a b x f) = absurd (omega arith)
+
 -- the place that is found where the test fails there and passes at each lower place
 pub first-of : (p : ℕ → Bool) (n k : ℕ) → 1 ≤ k → k < 1 + n → p k ≡ false → ((j : ℕ) → 1 ≤ j → j < k → p j ≡ true) → firstOf n p ≡ k
 first-of p n k l h x f = found (firstOf n p) (looked p 1 n)

@@ -2,7 +2,7 @@
 use Prim.Native.Nat.{_+_, _-_, _≤_}
 use Rattle.layout.proofs.Rows.{width-at, texts-at}
 use Rattle.layout.specs.Page.{widthOf}
-use Rattle.recasting.proofs.BlankLaws.{Blanking, begins, ended, inside, short-own, legal-own, tested, turn}
+use Rattle.recasting.proofs.BlankLaws.{Blanking, begins-at, ended, inside, short-own, legal-own, tested, turn}
 use borrow.Author.Needs.{needs}
 use mathlib.Core.Path.{_≡_, _∙_, sym}
 use native.Mathlib.Omega.{arith}
@@ -35,7 +35,7 @@ ends : (c : tie.After-digit Inv-loop μ-loop) → c .before .before .loop .at + 
 ends c = inside _ _ _ _ _ _ _ (c .before .before .loop .inv) _ (wide c) (c .before .loop-test .taken)
 
 loop-holds : tie.Need-loop-holds Inv-loop μ-loop
-loop-holds c = begins _ _ _ (c .before .before .before .before .before .pre .0) _ (c .none .ensures)
+loop-holds c = begins-at _ _ _ (c .before .before .before .before .before .pre .0) (c .before .before .before .before .before .pre .1) _ (c .none .ensures)
 
 array-read-digit : tie.Need-array-read-digit Inv-loop μ-loop
 array-read-digit c = search needs

@@ -54,8 +54,8 @@ place c =
 widths-requires : tie.Need-widths-requires Inv-loop μ-loop
 widths-requires c κs = search needs
 
-tops-in-requires : tie.Need-tops-in-requires Inv-loop μ-loop
-tops-in-requires c κs = search needs
+tops-requires : tie.Need-tops-requires Inv-loop μ-loop
+tops-requires c κs = search needs
 
 letters-in-requires : tie.Need-letters-in-requires Inv-loop μ-loop
 letters-in-requires c κs = search needs
@@ -94,7 +94,7 @@ part-passes-end c = ends c
 passes-requires : tie.Need-passes-requires Inv-loop μ-loop
 passes-requires c κs = (
   small _ (c .before .before .before .before .before .before .before .widths .ensures) _ _ _ (c .before .before .before .loop .inv .1 .0) (c .before .digit .ensures) _,
-  low-digits _ _ _ _ (c .before .before .before .before .before .before .before .before .before .pre) (c .before .before .before .before .before .before .tops-in .ensures) (c .before .before .before .before .before .letters-in .ensures) _ _ (c .before .before .before .loop .inv .0) (c .before .before .before .before .last .ensures)
+  low-digits _ _ _ _ (c .before .before .before .before .before .before .before .before .before .pre) (c .before .before .before .before .before .before .tops .ensures) (c .before .before .before .before .before .letters-in .ensures) _ _ (c .before .before .before .loop .inv .0) (c .before .before .before .before .last .ensures)
       (c .before .before .loop-test .taken) _ (part _ (c .before .before .before .before .before .before .before .widths .ensures) _ _ _ (c .before .before .before .loop .inv .1 .0) (c .before .digit .ensures) (c .before .before .before .before .before .before .before .before .before .args .line .now)),
 )
 
@@ -127,7 +127,7 @@ first-illegal-spec =
     Inv-loop
     μ-loop
     widths-requires
-    tops-in-requires
+    tops-requires
     letters-in-requires
     last-requires
     loop-holds

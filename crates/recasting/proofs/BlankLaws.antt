@@ -19,8 +19,9 @@ use Rattle.layout.specs.Page.{page, element, columns, widthOf, startOf, textOf,
 use Rattle.layout.specs.Records.{rowFrom}
 use Rattle.layout.proofs.Columns.{start-next, start-below, filled, narrow}
 use Rattle.layout.proofs.RecordLaws.{first, one-more}
-use Rattle.recasting.proofs.KeepLaws.{early-kept}
-use Rattle.recasting.specs.Recast.{lostText, lostAt, blanks, blankedText, blankedRow}
+use Rattle.meanings.proofs.KeepLaws.{early-kept}
+use Rattle.meanings.specs.Kept.{lostText, lostAt}
+use Rattle.recasting.specs.Recast.{blanks, blankedText, blankedRow}
 
 -- one element, where it is lost and where it is not
 module _ (x : Bool) where

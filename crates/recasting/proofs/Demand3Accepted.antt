@@ -22,8 +22,9 @@ use Rattle.checking.specs.Check.{checked}
 use Rattle.checking.specs.Acceptable.{Acceptable}
 use Rattle.checking.proofs.Demand2Acceptance.{accepted-exactly}
 use Rattle.checking.proofs.LegalLaws.{legal-record}
-use Rattle.recasting.specs.Meaning.{senseOf, sameSense}
-use Rattle.recasting.specs.Recast.{keeps, lostText, lostAt, digitOf, recastText, recastRecord}
+use Rattle.meanings.specs.Meaning.{senseOf, sameSense}
+use Rattle.meanings.specs.Kept.{keeps, lostText, lostAt}
+use Rattle.recasting.specs.Recast.{digitOf, recastText, recastRecord}
 use Rattle.recasting.proofs.ResultLaws.{Plain, result, result-long, result-text, as-it-was, lost-blank, new-blank}
 use Rattle.recasting.proofs.ColumnLaws.{same-digits, Column, stays, moves, column}
 use Rattle.recasting.proofs.NeverLaws.{same}

@@ -29,9 +29,10 @@ use Rattle.checking.specs.Check.{column}
 use Rattle.checking.specs.Acceptable.{Acceptable}
 use Rattle.checking.proofs.Placed.{column-at}
 use Rattle.hemispheres.specs.Digits.{crosses}
-use Rattle.recasting.specs.Meaning.{senseOf, senseNumber}
-use Rattle.recasting.specs.Recast.{keeps, lostText, lostAt, digitOf, recastRecord}
-use Rattle.recasting.specs.Lost.{Lost}
+use Rattle.meanings.specs.Meaning.{senseOf, senseNumber}
+use Rattle.meanings.specs.Kept.{keeps, lostText, lostAt}
+use Rattle.recasting.specs.Recast.{digitOf, recastRecord}
+use Rattle.meanings.specs.Lost.{Lost}
 use Rattle.recasting.proofs.ResultLaws.{result, result-long, as-it-was}
 use Rattle.recasting.proofs.ColumnLaws as Columns
 use Rattle.recasting.proofs.NeverLaws as Never

@@ -23,12 +23,12 @@ use Rattle.reading.specs.declared.Reading.the-variants.{Missing, At}
 use Rattle.reading.specs.Readings.{south, west, placeOf, temperature, lead, itemOf}
 use Rattle.hemispheres.specs.Digits.{crosses}
 use Rattle.hemispheres.proofs.Demand3Digits.{Found, same-numbers}
-use Rattle.recasting.specs.declared.Sense.{Sense}
-use Rattle.recasting.specs.declared.Sense.the-variants.{Alike}
-use Rattle.recasting.specs.Meaning.{senseOf, senseNumber, sameSense, withoutDigit, shares, Meaning, reads, says, meaningOf}
-use Rattle.recasting.specs.Recast.{keeps, lostText, lostAt}
-use Rattle.recasting.specs.Lost.{Expressible, Lost}
-use Rattle.recasting.proofs.SenseLaws.{same-sense}
+use Rattle.meanings.specs.declared.Sense.{Sense}
+use Rattle.meanings.specs.declared.Sense.the-variants.{Alike}
+use Rattle.meanings.specs.Meaning.{senseOf, senseNumber, sameSense, withoutDigit, shares, Meaning, reads, says, meaningOf}
+use Rattle.meanings.specs.Kept.{keeps, lostText, lostAt}
+use Rattle.meanings.specs.Lost.{Expressible, Lost}
+use Rattle.meanings.proofs.SenseLaws.{same-sense}
 use Rattle.recasting.proofs.ResultLaws.{Plain, result, result-long, result-beyond, as-it-was, lost-blank, new-blank}
 use Rattle.recasting.proofs.EndLaws.{nothing-there}
 use Rattle.recasting.proofs.NeverLaws.{shared, column-12, same}

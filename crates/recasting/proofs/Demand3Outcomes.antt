@@ -32,9 +32,10 @@ use Rattle.checking.proofs.Told.{Told, told}
 use Rattle.hemispheres.proofs.Demand3Digits.{digit-found}
 use Rattle.recasting.specs.declared.Outcome.{Outcome}
 use Rattle.recasting.specs.declared.Outcome.the-variants.{Done, Unrecast}
-use Rattle.recasting.specs.Meaning.{meaningOf}
-use Rattle.recasting.specs.Recast.{lostAt, hemisphere, digitOf, recastRecord, recastIn, recastTo, recastAfter, recastOf, filledBy, leftTo, leftAfter, leftOf, outcomeLosses}
-use Rattle.recasting.specs.Lost.{Expressible}
+use Rattle.meanings.specs.Meaning.{meaningOf}
+use Rattle.meanings.specs.Kept.{lostAt}
+use Rattle.recasting.specs.Recast.{hemisphere, digitOf, recastRecord, recastIn, recastTo, recastAfter, recastOf, filledBy, leftTo, leftAfter, leftOf, outcomeLosses}
+use Rattle.meanings.specs.Lost.{Expressible}
 use Rattle.recasting.specs.Fits.{suitsPlace, Names, Fits, refused, unheld, digitless, cramped, recast}
 use Rattle.recasting.proofs.ResultLaws.{result-long}
 use Rattle.recasting.proofs.ColumnLaws as Columns

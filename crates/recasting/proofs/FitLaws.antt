@@ -17,8 +17,9 @@ use Rattle.layout.proofs.Elements.{last-below}
 use Rattle.layout.proofs.RecordLaws.{text-long, same-record}
 use Rattle.checking.specs.Acceptable.{Acceptable}
 use Rattle.hemispheres.specs.Digits.{suits, crosses}
-use Rattle.recasting.specs.Recast.{lostText, lostAt, recastRecord}
-use Rattle.recasting.specs.Lost.{Expressible}
+use Rattle.meanings.specs.Kept.{lostText, lostAt}
+use Rattle.recasting.specs.Recast.{recastRecord}
+use Rattle.meanings.specs.Lost.{Expressible}
 use Rattle.recasting.specs.Fits.{Lowest, Column12, stays, moves, HasDigit, unmoved, some, Recasts}
 use Rattle.recasting.proofs.ResultLaws.{result, result-long, as-it-was, lost-blank}
 use Rattle.recasting.proofs.ColumnLaws as Columns

@@ -1,5 +1,4 @@
 -- The laws that the functions of this crate cite, and the promises of demand 3.
-pub mod KeepLaws
 pub mod BlankLaws
 pub mod PlaceLaws
 pub mod WidenLaws
@@ -10,7 +9,6 @@ pub mod ColumnLaws
 pub mod EndLaws
 pub mod NeverLaws
 pub mod TiedLaws
-pub mod SenseLaws
 pub mod Demand3Accepted
 pub mod Demand3Meaning
 pub mod Demand3Losses

@@ -25,7 +25,8 @@ use Rattle.checking.specs.declared.Answer.the-variants.{Accepted}
 use Rattle.checking.specs.Check.{checked}
 use Rattle.checking.specs.Acceptable.{Acceptable}
 use Rattle.checking.proofs.Demand2Acceptance.{accepted-exactly}
-use Rattle.recasting.specs.Recast.{lostAt, hemisphere, digitOf, blanks, widened, recastText, recastRow, blankedText, blankedRow}
+use Rattle.meanings.specs.Kept.{lostAt}
+use Rattle.recasting.specs.Recast.{hemisphere, digitOf, blanks, widened, recastText, recastRow, blankedText, blankedRow}
 use Rattle.recasting.proofs.WidenLaws.{blanks-long, copied, widened-long, same-lost, same-names, all-legal}
 
 -- a text of element e in columns as many as edition 4's

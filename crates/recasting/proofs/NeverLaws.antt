@@ -15,9 +15,9 @@ use Rattle.layout.specs.declared.Edition.{Edition}
 use Rattle.layout.specs.Page.{textOf, legal}
 use Rattle.layout.proofs.Beyond.{last-above}
 use Rattle.checking.specs.Acceptable.{Acceptable}
-use Rattle.recasting.specs.Meaning.{shares}
-use Rattle.recasting.specs.Recast.{lostAt}
-use Rattle.recasting.proofs.KeepLaws.{early-kept, added-kept, version-kept}
+use Rattle.meanings.specs.Meaning.{shares}
+use Rattle.meanings.specs.Kept.{lostAt}
+use Rattle.meanings.proofs.KeepLaws.{early-kept, added-kept, version-kept}
 use Rattle.recasting.proofs.ResultLaws.{result, as-it-was}
 
 -- before column 70 but for column 12, and in columns 81 to 109

@@ -20,7 +20,8 @@ use Rattle.checking.specs.declared.Answer.the-variants.{Accepted}
 use Rattle.checking.specs.Check.{checked}
 use Rattle.checking.proofs.Demand2Acceptance.{accepted-exactly}
 use Rattle.recasting.specs.declared.Outcome.the-variants.{Done, Unrecast}
-use Rattle.recasting.specs.Recast.{lostAt, hemisphere, recastText, recastRow, recastRecord, recastIn, recastTo, recastAfter, filledBy, leftTo, leftAfter}
+use Rattle.meanings.specs.Kept.{lostAt}
+use Rattle.recasting.specs.Recast.{hemisphere, recastText, recastRow, recastRecord, recastIn, recastTo, recastAfter, filledBy, leftTo, leftAfter}
 use Rattle.recasting.proofs.MakeLaws.{recast-wide}
 
 pub accepted-long : (from : Edition) (xs : List ℕ) → checked xs ≡ Accepted from → 131 ≤ length xs

@@ -13,7 +13,8 @@ use Rattle.layout.specs.Page.{element, widthOf, textOf}
 use Rattle.layout.proofs.Beyond.{text-none}
 use Rattle.layout.proofs.RecordLaws.{record-long, record-text}
 use Rattle.checking.specs.Acceptable.{Acceptable}
-use Rattle.recasting.specs.Recast.{lostAt, widened, recastText, recastRecord}
+use Rattle.meanings.specs.Kept.{lostAt}
+use Rattle.recasting.specs.Recast.{widened, recastText, recastRecord}
 use Rattle.recasting.proofs.WidenLaws.{blanks-blank, own-kept, others-blank}
 use Rattle.recasting.proofs.MakeLaws.{recast-wide}
 

@@ -15,7 +15,7 @@ use Rattle.layout.specs.Page.{textOf}
 use Rattle.ties.specs.Ties.{placeTie, octantTie, signTie, digitTie, windTie, tie}
 use Rattle.checking.specs.Acceptable.{Acceptable}
 use Rattle.hemispheres.specs.Digits.{keepsTie, crosses}
-use Rattle.recasting.specs.Recast.{lostAt}
+use Rattle.meanings.specs.Kept.{lostAt}
 use Rattle.recasting.proofs.ResultLaws.{result, result-beyond, as-it-was, lost-blank, new-blank}
 use Rattle.recasting.proofs.NeverLaws.{steady, same}
 use Rattle.recasting.proofs.ColumnLaws.{digit-there, digit-number, Column, stays, moves, column, same-there}

@@ -22,7 +22,8 @@ use Rattle.layout.proofs.Beyond.{last-above, text-none}
 use Rattle.layout.proofs.Columns.{start-rises, filled}
 use Rattle.layout.proofs.RecordLaws.{most, ends, part-of-front}
 use Rattle.checking.specs.Acceptable.{Acceptable}
-use Rattle.recasting.specs.Recast.{lostText, lostAt, blanks, widened}
+use Rattle.meanings.specs.Kept.{lostText, lostAt}
+use Rattle.recasting.specs.Recast.{blanks, widened}
 
 -- blanks are blank, and so is a part of them
 pub blanks-blank : (n : ℕ) → blank (blanks n) ≡ true

@@ -17,10 +17,9 @@ use Rattle.reading.specs.declared.Reading.the-variants.{Code, Amount}
 use Rattle.reading.specs.Readings.{plain, temperature, south, west, itemOf}
 use Rattle.reading.specs.Answers.{readAfter}
 use Rattle.hemispheres.specs.Digits.{suits, lowestDigit}
-use Rattle.recasting.specs.Meaning.{platformSense, senseOf}
+use Rattle.meanings.specs.Meaning.{platformSense, senseOf}
+use Rattle.meanings.specs.Kept.{keeps, lostText}
 use Rattle.recasting.specs.Recast.{
-  keeps,
-  lostText,
   hemisphere,
   widened,
   recastText,

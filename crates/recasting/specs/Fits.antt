@@ -23,7 +23,7 @@ use Rattle.hemispheres.specs.Digits.{suits, crosses}
 use Rattle.recasting.specs.declared.Outcome.{Outcome}
 use Rattle.recasting.specs.declared.Outcome.the-variants.{Done, Unrecast}
 use Rattle.recasting.specs.Recast.{digitOf}
-use Rattle.recasting.specs.Lost.{Expressible, Lost}
+use Rattle.meanings.specs.Lost.{Expressible, Lost}
 
 -- digit d of the target gives the record's place and keeps tie 2, and no lower one does
 abbrev pub suitsPlace : Edition → Edition → List ℕ → ℕ → Bool

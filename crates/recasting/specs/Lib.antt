@@ -1,5 +1,3 @@
-pub mod Meaning
 pub mod Recast
-pub mod Lost
 pub mod Fits
 pub mod Cases

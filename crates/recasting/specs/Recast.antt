@@ -1,11 +1,10 @@
 -- What recasting a record to another edition answers: rules 1 to 8, then 10 and 9; the elements lost; and what the lent buffer holds afterwards. Assumes nothing.
 use Prim.Native.Nat.{ℕ, _-_}
-use mathlib.Core.Bool.{Bool, cond, not, _&&_, _||_}
+use mathlib.Core.Bool.{cond, _&&_}
 use mathlib.Core.List.{List, [], _∷_, _++_}
 use lib.Dec.{eqb, leb}
 use lib.ListN.{length, getD, drop}
 use Rattle.text.specs.Bytes.{number}
-use Rattle.text.specs.Texts.{allows}
 use Rattle.numerals.specs.Spelling.{spell, inBlanks}
 use Rattle.losses.specs.Losses.{noLosses, lossesOf}
 use Rattle.losses.specs.declared.Losses.{Losses}
@@ -15,7 +14,7 @@ use Rattle.layout.specs.declared.Named.{Named}
 use Rattle.layout.specs.declared.Named.the-variants.{Known, Unknown}
 use Rattle.layout.specs.declared.Refusal.the-variants.{Unheld, Room, NoDigit}
 use Rattle.layout.specs.Editions.{asked, lengthOf}
-use Rattle.layout.specs.Page.{widthOf, textOf, textsOf}
+use Rattle.layout.specs.Page.{widthOf, textOf}
 use Rattle.layout.specs.Records.{rowFrom, recordFrom}
 use Rattle.layout.specs.Refusals.{numberOf, placeOf}
 use Rattle.ties.specs.Ties.{there}
@@ -25,18 +24,7 @@ use Rattle.checking.specs.Check.{checked}
 use Rattle.hemispheres.specs.Digits.{lowestDigit, crosses}
 use Rattle.recasting.specs.declared.Outcome.{Outcome}
 use Rattle.recasting.specs.declared.Outcome.the-variants.{Done, Unrecast}
-use Rattle.recasting.specs.Meaning.{senseOf, sameSense}
-
--- a text of element e is legal in the target and has the same sense there; column 12 and column 111 have rules of their own
-unfoldable pub keeps : Edition → Edition → ℕ → List ℕ → Bool
-keeps from to e t = eqb e 6 || (eqb e 65 || (allows (textsOf to e) t && sameSense (senseOf from e t) (senseOf to e t)))
-
--- only a filled element can be lost
-unfoldable pub lostText : Edition → Edition → ℕ → List ℕ → Bool
-lostText from to e t = there t && not (keeps from to e t)
-
-abbrev pub lostAt : Edition → Edition → List ℕ → ℕ → Bool
-lostAt from to xs e = lostText from to e (textOf e xs)
+use Rattle.meanings.specs.Kept.{lostAt}
 
 -- column 12 in the target: between edition 1 and the others the lowest digit with the same place that also keeps tie 2, else it stays; a blank place stays blank
 unfoldable pub hemisphere : Edition → Edition → List ℕ → ℕ

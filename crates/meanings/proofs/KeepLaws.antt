@@ -14,10 +14,10 @@ use Rattle.layout.specs.declared.Edition.{Edition}
 use Rattle.layout.specs.Letters.{lettered, lookup}
 use Rattle.layout.specs.Page.{textsOf, mayBeBlank, legalText}
 use Rattle.layout.proofs.Alike.{early-alike, added-alike}
-use Rattle.recasting.specs.declared.Sense.{Sense}
-use Rattle.recasting.specs.declared.Sense.the-variants.{Alike}
-use Rattle.recasting.specs.Meaning.{sourceSense, platformSense, countrySense, hasSenses, senseOf, senseNumber, sameSense}
-use Rattle.recasting.specs.Recast.{keeps, lostText}
+use Rattle.meanings.specs.declared.Sense.{Sense}
+use Rattle.meanings.specs.declared.Sense.the-variants.{Alike}
+use Rattle.meanings.specs.Meaning.{sourceSense, platformSense, countrySense, hasSenses, senseOf, senseNumber, sameSense}
+use Rattle.meanings.specs.Kept.{keeps, lostText}
 
 -- the sense of a text, by its element
 module _ (ed : Edition) (e : ℕ) (t : List ℕ) where

@@ -1,9 +1,9 @@
--- `recasting::source_sense` meets its contract. Assumes nothing.
-use Rattle.recasting.specs.Meaning.{sourceSense}
+-- `meanings::source_sense` meets its contract. Assumes nothing.
+use Rattle.meanings.specs.Meaning.{sourceSense}
 use borrow.Author.Needs.{needs}
 use borrow.Author.Tests.{eq-eqb, ne-eqb}
-use Rattle.recasting.proofs.source_sense.Statement.{statement}
-use Rattle.recasting.proofs.source_sense.Tie as tie
+use Rattle.meanings.proofs.source_sense.Statement.{statement}
+use Rattle.meanings.proofs.source_sense.Tie as tie
 
 in-edition-requires : tie.Need-in-edition-requires
 in-edition-requires c κs = search needs

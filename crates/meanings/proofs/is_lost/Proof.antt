@@ -1,9 +1,9 @@
--- `recasting::is_lost` meets its contract. Assumes nothing.
-use Rattle.recasting.proofs.KeepLaws.{blank-kept, filled-lost}
+-- `meanings::is_lost` meets its contract. Assumes nothing.
+use Rattle.meanings.proofs.KeepLaws.{blank-kept, filled-lost}
 use borrow.Author.Needs.{needs}
 use mathlib.Core.Path.{sym}
-use Rattle.recasting.proofs.is_lost.Statement.{statement}
-use Rattle.recasting.proofs.is_lost.Tie as tie
+use Rattle.meanings.proofs.is_lost.Statement.{statement}
+use Rattle.meanings.proofs.is_lost.Tie as tie
 
 is-plain-requires : tie.Need-is-plain-requires
 is-plain-requires c κs = search needs

@@ -1,11 +1,11 @@
--- `recasting::is_plain` meets its contract. Assumes nothing.
+-- `meanings::is_plain` meets its contract. Assumes nothing.
 use mathlib.Core.Bool.{true≢false}
 use mathlib.Core.Path.{_∙_, sym}
 use borrow.Author.Needs.{needs}
 use Rattle.layout.proofs.Singles.{alone}
-use Rattle.recasting.proofs.KeepLaws.{same-letter, in-target}
-use Rattle.recasting.proofs.is_plain.Statement.{statement}
-use Rattle.recasting.proofs.is_plain.Tie as tie
+use Rattle.meanings.proofs.KeepLaws.{same-letter, in-target}
+use Rattle.meanings.proofs.is_plain.Statement.{statement}
+use Rattle.meanings.proofs.is_plain.Tie as tie
 
 has-senses-requires : tie.Need-has-senses-requires
 has-senses-requires c κs = search needs

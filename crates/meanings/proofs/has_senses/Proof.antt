@@ -1,7 +1,7 @@
--- `recasting::has_senses` meets its contract. Assumes nothing.
+-- `meanings::has_senses` meets its contract. Assumes nothing.
 use borrow.Author.Tests.{ne-eqb}
-use Rattle.recasting.proofs.has_senses.Statement.{statement}
-use Rattle.recasting.proofs.has_senses.Tie as tie
+use Rattle.meanings.proofs.has_senses.Statement.{statement}
+use Rattle.meanings.proofs.has_senses.Tie as tie
 
 returns : tie.Need-returns
 returns c = rw (c .match .keys1)

@@ -9,7 +9,7 @@ use Rattle.layout.specs.Editions.{lengthOf}
 use Rattle.layout.specs.Page.{textOf, legal}
 use Rattle.ties.specs.Ties.{there}
 use Rattle.reading.specs.Readings.{lead}
-use Rattle.recasting.specs.Meaning.{meaningOf}
+use Rattle.meanings.specs.Meaning.{meaningOf}
 
 -- a legal text of the target has the meaning of element e: some text as long as the target's records has it, in the columns of e and of the elements that
 -- share its reading

@@ -1,8 +1,8 @@
--- `recasting::is_kept` meets its contract. Assumes nothing.
-use Rattle.recasting.proofs.KeepLaws.{kept-six, kept-version, not-had, not-allowed, in-sense}
+-- `meanings::is_kept` meets its contract. Assumes nothing.
+use Rattle.meanings.proofs.KeepLaws.{kept-six, kept-version, not-had, not-allowed, in-sense}
 use borrow.Author.Needs.{needs}
-use Rattle.recasting.proofs.is_kept.Statement.{statement}
-use Rattle.recasting.proofs.is_kept.Tie as tie
+use Rattle.meanings.proofs.is_kept.Statement.{statement}
+use Rattle.meanings.proofs.is_kept.Tie as tie
 
 returns : tie.Need-returns
 returns c = kept-six _ _ _ _ (c .if1 .taken)

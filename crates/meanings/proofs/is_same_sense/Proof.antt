@@ -1,8 +1,8 @@
--- `recasting::is_same_sense` meets its contract. Assumes nothing.
-use Rattle.recasting.proofs.KeepLaws.{numbers-agree}
+-- `meanings::is_same_sense` meets its contract. Assumes nothing.
+use Rattle.meanings.proofs.KeepLaws.{numbers-agree}
 use borrow.Author.Needs.{needs}
-use Rattle.recasting.proofs.is_same_sense.Statement.{statement}
-use Rattle.recasting.proofs.is_same_sense.Tie as tie
+use Rattle.meanings.proofs.is_same_sense.Statement.{statement}
+use Rattle.meanings.proofs.is_same_sense.Tie as tie
 
 sense-of-requires : tie.Need-sense-of-requires
 sense-of-requires c κs = search needs

@@ -11,8 +11,8 @@ use Rattle.layout.specs.Page.{textOf}
 use Rattle.reading.specs.declared.Reading.{Reading}
 use Rattle.reading.specs.declared.Reading.the-variants.{Missing, Code, Text, Amount, At}
 use Rattle.reading.specs.Readings.{lead, readingOf}
-use Rattle.recasting.specs.declared.Sense.{Sense}
-use Rattle.recasting.specs.declared.Sense.the-variants.{
+use Rattle.meanings.specs.declared.Sense.{Sense}
+use Rattle.meanings.specs.declared.Sense.the-variants.{
   Alike,
   NationalLogbook,
   InternationalLogbook,

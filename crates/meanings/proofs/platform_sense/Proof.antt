@@ -1,9 +1,9 @@
--- `recasting::platform_sense` meets its contract. Assumes nothing.
-use Rattle.recasting.specs.Meaning.{platformSense}
+-- `meanings::platform_sense` meets its contract. Assumes nothing.
+use Rattle.meanings.specs.Meaning.{platformSense}
 use borrow.Author.Needs.{needs}
 use borrow.Author.Tests.{eq-eqb, ne-eqb}
-use Rattle.recasting.proofs.platform_sense.Statement.{statement}
-use Rattle.recasting.proofs.platform_sense.Tie as tie
+use Rattle.meanings.proofs.platform_sense.Statement.{statement}
+use Rattle.meanings.proofs.platform_sense.Tie as tie
 
 in-edition-requires : tie.Need-in-edition-requires
 in-edition-requires c κs = search needs

@@ -5,8 +5,8 @@ use mathlib.Core.List.{List, [], _∷_}
 use Prim.Native.Nat.{ℕ}
 use borrow.Author.Tests.{eqb-true}
 use lib.ListN.{getD}
-use Rattle.recasting.specs.declared.Sense.{Sense}
-use Rattle.recasting.specs.declared.Sense.the-variants.{
+use Rattle.meanings.specs.declared.Sense.{Sense}
+use Rattle.meanings.specs.declared.Sense.the-variants.{
   Alike,
   NationalLogbook,
   InternationalLogbook,
@@ -19,7 +19,7 @@ use Rattle.recasting.specs.declared.Sense.the-variants.{
   CountryNumber,
   CountryLetters,
 }
-use Rattle.recasting.specs.Meaning.{senseNumber, sameSense}
+use Rattle.meanings.specs.Meaning.{senseNumber, sameSense}
 
 -- the senses in the order of their numbers
 unfoldable senses : List Sense

@@ -1,9 +1,9 @@
--- `recasting::sense_of` meets its contract. Assumes nothing.
-use Rattle.recasting.proofs.KeepLaws.{at-source, at-platform, at-country, at-others}
+-- `meanings::sense_of` meets its contract. Assumes nothing.
+use Rattle.meanings.proofs.KeepLaws.{at-source, at-platform, at-country, at-others}
 use borrow.Author.Needs.{needs}
 use borrow.Author.Tests.{ne-eqb}
-use Rattle.recasting.proofs.sense_of.Statement.{statement}
-use Rattle.recasting.proofs.sense_of.Tie as tie
+use Rattle.meanings.proofs.sense_of.Statement.{statement}
+use Rattle.meanings.proofs.sense_of.Tie as tie
 
 number-of-requires : tie.Need-number-of-requires
 number-of-requires c κs = search needs

@@ -10,22 +10,22 @@
 use checking::Answer;
 use layout::page;
 use libc::STDIN_FILENO;
-use report::Held;
-use report::Tally;
+use printing::Held;
+use printing::Tally;
 
 // Says what the check answers of one record.
 fn tell(line: &[u8], before: Tally) -> Tally {
     let tally = before.with_record();
     let record = tally.records;
-    report::say_number(record);
+    printing::say_number(record);
     match checking::check(line) {
         Answer::Accepted(edition) => {
-            report::say_edition(edition);
-            report::say_call_sign(checking::show_call_sign(line), record);
+            printing::say_edition(edition);
+            printing::say_call_sign(checking::show_call_sign(line), record);
             tally
         }
         Answer::Refused(refusal) => {
-            report::say_refused(refusal);
+            printing::say_refused(refusal);
             tally.with_refusal()
         }
     }
@@ -34,7 +34,7 @@ fn tell(line: &[u8], before: Tally) -> Tally {
 // Takes one byte: the end of a line, whose record is told, or one byte more of it.
 fn take(kept: &mut [u8], held: Held, b: u8) -> Held {
     if b != 10 {
-        return report::keep(kept, held, b);
+        return printing::keep(kept, held, b);
     }
     Held::nothing(tell(page::columns(kept, 0, held.length), held.tally))
 }
@@ -70,11 +70,11 @@ fn finish(kept: &mut [u8], held: Held) {
     let length = held.length;
     let tally = held.tally;
     if length == 0 {
-        report::say_last(tally);
+        printing::say_last(tally);
         return;
     }
     let all = take(kept, held, 10);
-    report::say_last(all.tally);
+    printing::say_last(all.tally);
 }
 
 fn main() {

@@ -1,4 +1,4 @@
--- The editions: which character in column 111 names each, its length, and its last element. Assumes nothing.
+-- The editions: which character in column 111 names each, its number, its length, and its last element. Assumes nothing.
 use Prim.Native.Nat.{ℕ}
 use mathlib.Core.Bool.{cond}
 use lib.Dec.{eqb}
@@ -14,6 +14,12 @@ editionOf b = cond (eqb b 49) (Known One) (cond (eqb b 51) (Known Three) (cond (
 -- the edition that is asked for by its number: 1, 3, 4, and no other
 abbrev pub asked : ℕ → Named
 asked n = cond (eqb n 1) (Known One) (cond (eqb n 3) (Known Three) (cond (eqb n 4) (Known Four) Unknown))
+
+-- the number that an edition goes by
+abbrev pub editionNumber : Edition → ℕ
+editionNumber One = 1
+editionNumber Three = 3
+editionNumber Four = 4
 
 -- each edition has a length of its own
 abbrev pub lengthOf : Edition → ℕ

@@ -5,7 +5,7 @@
 pub mod page;
 
 ghost use mathlib.Core.Path.{_≡_};
-ghost use Rattle.layout.specs.Editions.{editionOf, asked, lengthOf, lastOf};
+ghost use Rattle.layout.specs.Editions.{editionOf, asked, editionNumber, lengthOf, lastOf};
 ghost use Rattle.layout.specs.Refusals.{numberOf, placeOf};
 
 pub enum Edition {
@@ -55,6 +55,17 @@ impl Edition {
             3 => Named::Known(Edition::Three),
             4 => Named::Known(Edition::Four),
             _ => Named::Unknown,
+        }
+    }
+
+    // The number that the edition goes by.
+    pub fn number(self) -> u64
+        ensures { λ r. ⌜ r ≡ editionNumber self ⌝ }
+    {
+        match self {
+            Edition::One => 1,
+            Edition::Three => 3,
+            Edition::Four => 4,
         }
     }
 

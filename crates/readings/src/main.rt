@@ -18,13 +18,13 @@ use checking::Answer;
 use layout::Edition;
 use layout::page;
 use libc::STDIN_FILENO;
+use printing::Held;
+use printing::Tally;
+use printing::say;
+use printing::say_number;
 use reading::Kind;
 use reading::Place;
 use reading::Reading;
-use report::Held;
-use report::Tally;
-use report::say;
-use report::say_number;
 use writing::Outcome;
 
 // A number that may be below zero, with its sign before it.
@@ -137,7 +137,7 @@ fn begins_with(text: &[u8], line: &[u8]) -> bool {
 // room for either length, and an accepted line has its edition's own.
 fn is_written_same(edition: Edition, readings: [Reading; 101], line: &[u8]) -> bool {
     let mut buffer = [0u8; 159];
-    match writing::write(readings, report::number_of(edition), &mut buffer) {
+    match writing::write(readings, edition.number(), &mut buffer) {
         Outcome::Done => begins_with(&buffer, line),
         Outcome::Unwritten(_) => false,
     }
@@ -146,9 +146,9 @@ fn is_written_same(edition: Edition, readings: [Reading; 101], line: &[u8]) -> b
 // Says what an accepted record holds.
 fn tell_accepted(edition: Edition, line: &[u8], record: u64) {
     let readings = readings_of(edition, line);
-    report::say_edition(edition);
+    printing::say_edition(edition);
     say_readings(record, readings);
-    report::say_call_sign(checking::show_call_sign(line), record);
+    printing::say_call_sign(checking::show_call_sign(line), record);
     say_written(is_written_same(edition, readings, line), record);
 }
 
@@ -156,14 +156,14 @@ fn tell_accepted(edition: Edition, line: &[u8], record: u64) {
 fn tell(line: &[u8], before: Tally) -> Tally {
     let tally = before.with_record();
     let record = tally.records;
-    report::say_number(record);
+    printing::say_number(record);
     match checking::check(line) {
         Answer::Accepted(edition) => {
             tell_accepted(edition, line, record);
             tally
         }
         Answer::Refused(refusal) => {
-            report::say_refused(refusal);
+            printing::say_refused(refusal);
             tally.with_refusal()
         }
     }
@@ -172,7 +172,7 @@ fn tell(line: &[u8], before: Tally) -> Tally {
 // Takes one byte: the end of a line, whose record is told, or one byte more of it.
 fn take(kept: &mut [u8], held: Held, b: u8) -> Held {
     if b != 10 {
-        return report::keep(kept, held, b);
+        return printing::keep(kept, held, b);
     }
     Held::nothing(tell(page::columns(kept, 0, held.length), held.tally))
 }
@@ -208,11 +208,11 @@ fn finish(kept: &mut [u8], held: Held) {
     let length = held.length;
     let tally = held.tally;
     if length == 0 {
-        report::say_last(tally);
+        printing::say_last(tally);
         return;
     }
     let all = take(kept, held, 10);
-    report::say_last(all.tally);
+    printing::say_last(all.tally);
 }
 
 fn main() {

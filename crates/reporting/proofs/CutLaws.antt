@@ -10,16 +10,18 @@ use lib.ListN.{length, take, length-append}
 use lib.Seq.{take-all, take-append-le, length-take-le}
 use Rattle.layout.specs.declared.Refusal.the-variants.{Length}
 use Rattle.layout.specs.declared.Named.the-variants.{Unknown}
+use Rattle.layout.specs.Editions.{editionNumber}
 use Rattle.checking.specs.declared.Answer.{Answer}
 use Rattle.checking.specs.declared.Answer.the-variants.{Refused}
 use Rattle.checking.specs.Check.{checked, knownLength}
 use Rattle.checking.proofs.CheckLaws.{unknown-length}
 use Rattle.recasting.specs.declared.Outcome.the-variants.{Unrecast}
 use Rattle.recasting.specs.Recast.{recastAfter, recastOf}
+use Rattle.report_lines.specs.Sentences.{recordLine}
 use Rattle.reporting.specs.declared.Stage.{Stage}
 use Rattle.reporting.specs.declared.Stage.the-variants.{Waiting, Closed, Recasting}
 use Rattle.reporting.specs.declared.Ledger.{Ledger}
-use Rattle.reporting.specs.Report.{askedBy, editionNumber, recordLine}
+use Rattle.reporting.specs.Report.{askedBy}
 use Rattle.reporting.specs.Run.{ledger, ledgerIn, ledgerAfter, saidIn, saidOf, opened, opening, oneMore, refusedAfter, kept}
 
 -- a line that is too long for a record is refused for its length

@@ -17,14 +17,16 @@ use Rattle.layout.specs.declared.Named.{Named}
 use Rattle.layout.specs.declared.Named.the-variants.{Known, Unknown}
 use Rattle.recasting.specs.declared.Outcome.{Outcome}
 use Rattle.recasting.specs.declared.Outcome.the-variants.{Done, Unrecast}
+use Rattle.report_lines.specs.Sentences.{heading, notHeld, recordLine}
+use Rattle.report_lines.specs.Puts.{Puts}
 use Rattle.reporting.specs.declared.Stage.the-variants.{Waiting, Closed, Recasting}
 use Rattle.reporting.specs.declared.Ledger.{Ledger}
 use Rattle.reporting.specs.declared.Run.{Run}
 use Rattle.reporting.specs.declared.Fed.{Fed}
 use Rattle.reporting.specs.Lines.{linesFrom, lastLine}
-use Rattle.reporting.specs.Report.{askedBy, heading, notHeld, outcomeOf, recordLine, recordsFrom, refusals, reportIn, reportOn, reportOf}
+use Rattle.reporting.specs.Report.{askedBy, outcomeOf, recordsFrom, refusals, reportIn, reportOn, reportOf}
 use Rattle.reporting.specs.Run.{State, state, ledger, start, oneMore, opened, opening, refusedAfter, ledgerAfter, saidOf, kept, step, saidAt, stateAfter, saidBy, lastOf, closing, saidInPieces, view}
-use Rattle.reporting.specs.Puts.{Puts, Feeds, Finishes}
+use Rattle.reporting.specs.Contracts.{Feeds, Finishes}
 use Rattle.numerals.proofs.PlacedLaws.{placed-front}
 use Rattle.reporting.proofs.CutLaws.{said-cut, ledger-cut, kept-cut}
 use Rattle.reporting.proofs.RunLaws.{state-append, said-append}

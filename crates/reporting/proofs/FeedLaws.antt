@@ -10,14 +10,15 @@ use lib.Dec.{eqb}
 use lib.ListN.{length, getD, take, drop, length-drop}
 use lib.Seq.{getD-drop, take-all, take-add, take-suc, take-length, length-take-le}
 use Rattle.bytes.specs.Bytes.{indexOf, indexAfter, slice}
+use Rattle.report_lines.specs.Puts.{Puts}
 use Rattle.reporting.specs.declared.Ledger.{Ledger}
 use Rattle.reporting.specs.declared.Run.{Run}
 use Rattle.reporting.specs.declared.Told.{Told}
 use Rattle.reporting.specs.Run.{State, state, ledgerAfter, saidOf, kept, step, stateAfter, saidBy}
-use Rattle.reporting.specs.Puts.{Puts, Tells, Feeds}
+use Rattle.reporting.specs.Contracts.{Tells, Feeds}
+use Rattle.report_lines.proofs.PutLaws.{nothing, also}
 use Rattle.reporting.proofs.CutLaws.{kept-cut}
 use Rattle.reporting.proofs.RunLaws.{state-append, said-append}
-use Rattle.reporting.proofs.PutLaws.{nothing, also}
 use Rattle.reporting.proofs.FinishLaws.{held-view}
 
 -- the bytes before the first line end are held, and nothing is said of them

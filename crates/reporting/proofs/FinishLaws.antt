@@ -5,13 +5,14 @@ use Prim.Native.Nat.{ℕ, _<_, _≤_, min}
 use native.Mathlib.Omega.{arith}
 use lib.ListN.{length, take}
 use lib.Seq.{length-take-le}
+use Rattle.report_lines.specs.Puts.{Puts}
 use Rattle.reporting.specs.declared.Ledger.{Ledger}
 use Rattle.reporting.specs.declared.Run.{Run}
 use Rattle.reporting.specs.declared.Told.{Told}
 use Rattle.reporting.specs.Run.{state, ledgerAfter, saidOf, lastOf, closing, view}
-use Rattle.reporting.specs.Puts.{Puts, Tells, Finishes}
+use Rattle.reporting.specs.Contracts.{Tells, Finishes}
+use Rattle.report_lines.proofs.PutLaws.{also}
 use Rattle.reporting.proofs.KeepLaws.{take-min}
-use Rattle.reporting.proofs.PutLaws.{also}
 
 -- a buffer without room for the end is left as it is
 pub finish-short : (run : Run) (before : List ℕ) → length before < 1024 → Finishes run before before 0

@@ -1,7 +1,6 @@
 -- The laws of the run that the functions cite, and the promises about the report of a whole input.
 pub mod CutLaws
 pub mod RunLaws
-pub mod PutLaws
 pub mod TellLaws
 pub mod KeepLaws
 pub mod FinishLaws

@@ -6,8 +6,9 @@ use Prim.Native.Nat.{ℕ}
 use Rattle.checking.specs.Check.{checked}
 use Rattle.recasting.specs.Recast.{recastAfter}
 use Rattle.wording.specs.Wording.{decimal, decimalFrom}
+use Rattle.report_lines.specs.Sentences.{notHeld, records, recastTo, refused, heading, recordLine, totals}
 use Rattle.reporting.specs.Lines.{linesFrom}
-use Rattle.reporting.specs.Report.{notHeld, records, recastTo, refused, askedBy, heading, recordLine, recordsFrom, totals, reportOf}
+use Rattle.reporting.specs.Report.{askedBy, recordsFrom, reportOf}
 
 -- 'recast to 4', 'records 0 refused 0'; and with one record '1 refused 1 0', 'records 1 refused 1'
 abbrev to-4 : List ℕ

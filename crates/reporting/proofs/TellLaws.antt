@@ -10,15 +10,17 @@ use Rattle.layout.specs.declared.Named.{Named}
 use Rattle.layout.specs.declared.Named.the-variants.{Unknown}
 use Rattle.layout.specs.Editions.{editionOf}
 use Rattle.recasting.specs.declared.Outcome.{Outcome}
+use Rattle.report_lines.specs.Sentences.{recordLine}
+use Rattle.report_lines.specs.Puts.{Puts}
 use Rattle.reporting.specs.declared.Stage.{Stage}
 use Rattle.reporting.specs.declared.Stage.the-variants.{Waiting, Closed, Recasting}
 use Rattle.reporting.specs.declared.Ledger.{Ledger}
 use Rattle.reporting.specs.declared.Told.{Told}
-use Rattle.reporting.specs.Report.{askedBy, outcomeOf, recordLine}
+use Rattle.reporting.specs.Report.{askedBy, outcomeOf}
 use Rattle.reporting.specs.Run.{ledger, oneMore, opened, opening, refusedAfter, ledgerAfter, saidOf, lastIn, lastOf}
-use Rattle.reporting.specs.Puts.{Puts, Tells}
+use Rattle.reporting.specs.Contracts.{Tells}
+use Rattle.report_lines.proofs.PutLaws.{nothing}
 use Rattle.reporting.proofs.CutLaws.{said-cut, ledger-cut}
-use Rattle.reporting.proofs.PutLaws.{nothing}
 
 abbrev told : Ledger → ℕ → Told
 told l end = record { ledger = l; end = end }

@@ -12,7 +12,8 @@ use Rattle.reporting.specs.declared.Stage.{Stage}
 use Rattle.reporting.specs.declared.Stage.the-variants.{Waiting, Closed, Recasting}
 use Rattle.reporting.specs.declared.Ledger.{Ledger}
 use Rattle.reporting.specs.declared.Run.{Run}
-use Rattle.reporting.specs.Report.{askedBy, heading, notHeld, outcomeOf, recordLine, totals}
+use Rattle.report_lines.specs.Sentences.{heading, notHeld, recordLine, totals}
+use Rattle.reporting.specs.Report.{askedBy, outcomeOf}
 
 -- the ledger after the lines that have ended, and the line so far: its first 160 bytes
 pub record State : Type 0 where

@@ -3,8 +3,6 @@
 // The first line of the input names the edition asked for, and each line after it is a record. The
 // contracts cite specs/Run.antt, where the run is told byte by byte; that a run says the report of the
 // whole input, in whatever pieces it was fed, is proved in proofs/Demand2Run.antt.
-mod words;
-
 use layout::Edition;
 use layout::Named;
 use recasting::Outcome;
@@ -12,9 +10,10 @@ ghost use mathlib.Core.Path.{_≡_};
 ghost use mathlib.Core.List.{_++_};
 ghost use Prim.Native.Nat.{_+_, _≤_, min};
 ghost use lib.ListN.{length, take};
+ghost use Rattle.report_lines.specs.Puts.{Puts};
 ghost use Rattle.reporting.specs.Report.{askedBy};
 ghost use Rattle.reporting.specs.Run.{start, view, ledger, oneMore, refusedAfter, lastOf};
-ghost use Rattle.reporting.specs.Puts.{Puts, Tells, Feeds, Finishes};
+ghost use Rattle.reporting.specs.Contracts.{Tells, Feeds, Finishes};
 
 // What the lines so far have led to.
 pub enum Stage {
@@ -102,7 +101,7 @@ fn take_first(line: &[u8], records: u64, refused: u64, out: &mut [u8], at: usize
 {
     match asked_by(line) {
         Named::Known(edition) => {
-            let end = words::put_heading(out, at, edition);
+            let end = report_lines::put_heading(out, at, edition);
             let ledger = Ledger {
                 stage: Stage::Recasting(edition),
                 records: records,
@@ -114,7 +113,7 @@ fn take_first(line: &[u8], records: u64, refused: u64, out: &mut [u8], at: usize
             }
         }
         Named::Unknown => {
-            let end = words::put_not_held(out, at);
+            let end = report_lines::put_not_held(out, at);
             let ledger = Ledger {
                 stage: Stage::Closed,
                 records: records,
@@ -152,8 +151,8 @@ fn take_record(
 {
     let mut buffer = [0u8; 159];
     let count = one_more(records);
-    let outcome = recasting::recast(line, words::number_of(edition), &mut buffer);
-    let end = words::put_record(out, at, count, outcome);
+    let outcome = recasting::recast(line, edition.number(), &mut buffer);
+    let end = report_lines::put_record(out, at, count, outcome);
     let stage = Stage::Recasting(edition);
     let ledger = Ledger {
         stage: stage,
@@ -226,9 +225,9 @@ fn put_last(ledger: Ledger, out: &mut [u8], at: usize) -> usize
 {
     let stage = ledger.stage;
     match stage {
-        Stage::Waiting => words::put_not_held(out, at),
+        Stage::Waiting => report_lines::put_not_held(out, at),
         Stage::Closed => at,
-        Stage::Recasting(_) => words::put_totals(out, at, ledger.records, ledger.refused),
+        Stage::Recasting(_) => report_lines::put_totals(out, at, ledger.records, ledger.refused),
     }
 }
 

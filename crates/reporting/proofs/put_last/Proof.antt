@@ -1,6 +1,6 @@
 -- `reporting::put_last` meets its contract. Assumes nothing.
 use Rattle.reporting.proofs.TellLaws.{stage-last}
-use Rattle.reporting.proofs.PutLaws.{nothing}
+use Rattle.report_lines.proofs.PutLaws.{nothing}
 use Rattle.reporting.specs.declared.Stage.the-variants.{Closed, Recasting, Waiting}
 use native.Mathlib.Omega.{arith}
 use borrow.Author.Needs.{needs}

@@ -10,8 +10,8 @@ use Rattle.reporting.proofs.take_record.Tie as tie
 one-more-requires : tie.Need-one-more-requires
 one-more-requires c κs = search needs
 
-number-of-requires : tie.Need-number-of-requires
-number-of-requires c κs = search needs
+number-requires : tie.Need-number-requires
+number-requires c κs = search needs
 
 slice-aggregate-recast : tie.Need-slice-aggregate-recast
 slice-aggregate-recast c = search needs
@@ -30,7 +30,7 @@ same-length c = search needs
 
 returns : tie.Need-returns
 returns c =
-    let outcome = ap (λ (n : ℕ). recastOf (c .before .before .before .before .before .before .before .before .before .before .before .before .args .line .now) n 159) (c .before .before .before .before .before .before .before .before .number-of .ensures) in
+    let outcome = ap (λ (n : ℕ). recastOf (c .before .before .before .before .before .before .before .before .before .before .before .before .args .line .now) n 159) (c .before .before .before .before .before .before .before .before .number .ensures) in
     record-tells _ _ _ _ _ _ _ (c .before .before .before .before .before .before .before .before .before .one-more .ensures) (c .before .before .before .before .before .before .recast .ensures .0 ∙ outcome) (c .refused-after .ensures) (c .before .before .before .put-record .ensures .0) (c .before .before .before .put-record .ensures .1)
 
 pub take-record-spec : {M : Type 1} → statement M
@@ -38,7 +38,7 @@ take-record-spec =
     tie.close
     (tie.spec
     one-more-requires
-    number-of-requires
+    number-requires
     slice-aggregate-recast
     recast-requires
     put-record-requires

@@ -1,10 +1,10 @@
--- `reporting::words::put_totals` meets its contract. Assumes nothing.
-use Rattle.reporting.proofs.PutLaws.{also, puts}
-use Rattle.reporting.specs.Report.{totals}
+-- `report_lines::put_totals` meets its contract. Assumes nothing.
+use Rattle.report_lines.proofs.PutLaws.{also, puts}
+use Rattle.report_lines.specs.Sentences.{totals}
 use native.Mathlib.Omega.{arith}
 use borrow.Author.Needs.{needs}
-use Rattle.reporting.proofs.words.put_totals.Statement.{statement}
-use Rattle.reporting.proofs.words.put_totals.Tie as tie
+use Rattle.report_lines.proofs.put_totals.Statement.{statement}
+use Rattle.report_lines.proofs.put_totals.Tie as tie
 
 slice-aggregate-put-numbered : tie.Need-slice-aggregate-put-numbered
 slice-aggregate-put-numbered c = search needs

@@ -1,8 +1,8 @@
--- `reporting::words::put_count` meets its contract. Assumes nothing.
-use Rattle.reporting.proofs.PutLaws.{number-end, puts}
+-- `report_lines::put_count` meets its contract. Assumes nothing.
+use Rattle.report_lines.proofs.PutLaws.{number-end, puts}
 use borrow.Author.Needs.{needs}
-use Rattle.reporting.proofs.words.put_count.Statement.{statement}
-use Rattle.reporting.proofs.words.put_count.Tie as tie
+use Rattle.report_lines.proofs.put_count.Statement.{statement}
+use Rattle.report_lines.proofs.put_count.Tie as tie
 
 put-number-requires : tie.Need-put-number-requires
 put-number-requires c κs = search needs

@@ -1,9 +1,9 @@
--- `reporting::words::put_numbered` meets its contract. Assumes nothing.
-use Rattle.reporting.proofs.PutLaws.{also, number-end, puts}
+-- `report_lines::put_numbered` meets its contract. Assumes nothing.
+use Rattle.report_lines.proofs.PutLaws.{also, number-end, puts}
 use native.Mathlib.Omega.{arith}
 use borrow.Author.Needs.{needs}
-use Rattle.reporting.proofs.words.put_numbered.Statement.{statement}
-use Rattle.reporting.proofs.words.put_numbered.Tie as tie
+use Rattle.report_lines.proofs.put_numbered.Statement.{statement}
+use Rattle.report_lines.proofs.put_numbered.Tie as tie
 
 put-text-requires : tie.Need-put-text-requires
 put-text-requires c κs = search needs

@@ -12,8 +12,8 @@ use Rattle.wording.specs.Wording.{decimal}
 use Rattle.numerals.proofs.PlacedLaws.{placed-none, placed-length, placed-twice}
 use Rattle.wording.proofs.WordingLaws.{decimal-short, small-number}
 use Rattle.losses.specs.Losses.{elements}
-use Rattle.reporting.specs.Puts.{Puts}
-use Rattle.reporting.specs.Report.{blank, numbered, numbers, ifLost}
+use Rattle.report_lines.specs.Puts.{Puts}
+use Rattle.report_lines.specs.Sentences.{blank, numbered, numbers, ifLost}
 
 -- from what the functions that put texts and numbers say
 pub puts : {text : List ℕ} {at : ℕ} {before after : List ℕ} {end : ℕ} → (after ≡ placed at text before) × (end ≡ at + length text) → Puts text at before after end
@@ -41,9 +41,6 @@ nothing at before = record { stands = sym (placed-none at before); ends = omega 
 module _ (at n end : ℕ) where
   pub number-end : end ≡ at + length (decimal n) → end ≤ at + 20
   number-end e = omega (arith, decimal-short n)
-
-  pub numbered-end : (word : List ℕ) → end ≡ at + length (numbered word n) → end ≤ at + length word + 20
-  numbered-end word e = omega (arith, length-append word (decimal n), decimal-short n)
 
 -- Some of a text is put, and `rest` is left of it: putting the rest gives what putting the whole gives.
 pub record Left (whole : List ℕ) (at : ℕ) (before rest : List ℕ) (end : ℕ) (now : List ℕ) : Type 0 where

@@ -1,11 +1,11 @@
--- `reporting::words::put_done` meets its contract. Assumes nothing.
-use Rattle.reporting.proofs.PutLaws.{also, puts, renamed}
-use Rattle.reporting.specs.Report.{numbered, ok, recordLine}
+-- `report_lines::put_done` meets its contract. Assumes nothing.
+use Rattle.report_lines.proofs.PutLaws.{also, puts, renamed}
+use Rattle.report_lines.specs.Sentences.{numbered, ok, recordLine}
 use native.Mathlib.Omega.{arith}
 use mathlib.Core.Path.{ap}
 use borrow.Author.Needs.{needs}
-use Rattle.reporting.proofs.words.put_done.Statement.{statement}
-use Rattle.reporting.proofs.words.put_done.Tie as tie
+use Rattle.report_lines.proofs.put_done.Statement.{statement}
+use Rattle.report_lines.proofs.put_done.Tie as tie
 
 count-requires : tie.Need-count-requires
 count-requires c κs = search needs

@@ -51,19 +51,10 @@ pub fn say_number(n: u64) {
     io::print_decimal(STDOUT_FILENO, n);
 }
 
-// The number that the edition goes by.
-pub fn number_of(edition: Edition) -> u64 {
-    match edition {
-        Edition::One => 1,
-        Edition::Three => 3,
-        Edition::Four => 4,
-    }
-}
-
 // Ends the line of an accepted record, which its number began.
 pub fn say_edition(edition: Edition) {
     say(b" ok edition ");
-    say_number(number_of(edition));
+    say_number(edition.number());
     say(b"\n");
 }
 

@@ -1,10 +1,10 @@
--- `reporting::words::put_lost` meets its contract: what is left to put gives what the whole gives. Assumes nothing.
+-- `report_lines::put_lost` meets its contract: what is left to put gives what the whole gives. Assumes nothing.
 use Prim.Native.Nat.{_-_, _≤_}
-use Rattle.reporting.proofs.PutLaws.{Left, left-all, left-end, left-put, lostFrom, lost-next, lost-none, lost-short}
+use Rattle.report_lines.proofs.PutLaws.{Left, left-all, left-end, left-put, lostFrom, lost-next, lost-none, lost-short}
 use Rattle.losses.specs.Losses.{hasLoss}
 use native.Mathlib.Omega.{arith}
-use Rattle.reporting.proofs.words.put_lost.Statement.{statement}
-use Rattle.reporting.proofs.words.put_lost.Tie as tie
+use Rattle.report_lines.proofs.put_lost.Statement.{statement}
+use Rattle.report_lines.proofs.put_lost.Tie as tie
 
 abbrev Inv-loop : tie.InvT-loop
 Inv-loop out₀ at losses end₀ e₀ out end e = (e ≤ 102) × Left (lostFrom (hasLoss losses) 1) at out₀ (lostFrom (hasLoss losses) e) end out

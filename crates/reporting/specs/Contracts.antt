@@ -1,19 +1,14 @@
--- What the functions that write say of the lent buffer, and the contracts of the run. Assumes nothing.
+-- The contracts of the run: what telling a line, feeding a piece and finishing answer, and what they say of the lent buffer. Assumes nothing.
 use Prim.Native.Nat.{ℕ, _+_, _<_, _≤_}
 use mathlib.Core.Path.{_≡_}
 use mathlib.Core.List.{List}
 use lib.ListN.{length, take}
-use Rattle.numerals.specs.Spelling.{placed}
+use Rattle.report_lines.specs.Puts.{Puts}
 use Rattle.reporting.specs.declared.Ledger.{Ledger}
 use Rattle.reporting.specs.declared.Told.{Told}
 use Rattle.reporting.specs.declared.Run.{Run}
 use Rattle.reporting.specs.declared.Fed.{Fed}
 use Rattle.reporting.specs.Run.{ledgerAfter, saidOf, stateAfter, saidBy, closing, view}
-
--- a text is put: it stands from `at` on, whatever else the buffer held is as it was before, and `end` is the place after the text
-pub record Puts (text : List ℕ) (at : ℕ) (before after : List ℕ) (end : ℕ) : Type 0 where
-  pub stands : after ≡ placed at text before
-  pub ends : end ≡ at + length text
 
 -- a line is told: the ledger after it, and what is said of it
 pub record Tells (l : Ledger) (line : List ℕ) (at : ℕ) (before after : List ℕ) (r : Told) : Type 0 where

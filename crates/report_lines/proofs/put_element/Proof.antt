@@ -1,10 +1,10 @@
--- `reporting::words::put_element` meets its contract. Assumes nothing.
-use Rattle.reporting.proofs.PutLaws.{lost-pass, lost-put}
+-- `report_lines::put_element` meets its contract. Assumes nothing.
+use Rattle.report_lines.proofs.PutLaws.{lost-pass, lost-put}
 use Rattle.losses.specs.Losses.{hasLoss}
 use native.Mathlib.Omega.{arith}
 use borrow.Author.Needs.{needs}
-use Rattle.reporting.proofs.words.put_element.Statement.{statement}
-use Rattle.reporting.proofs.words.put_element.Tie as tie
+use Rattle.report_lines.proofs.put_element.Statement.{statement}
+use Rattle.report_lines.proofs.put_element.Tie as tie
 
 has-requires : tie.Need-has-requires
 has-requires c κs = search needs

@@ -1,7 +1,7 @@
--- `reporting::words::put_record` meets its contract. Assumes nothing.
+-- `report_lines::put_record` meets its contract. Assumes nothing.
 use borrow.Author.Needs.{needs}
-use Rattle.reporting.proofs.words.put_record.Statement.{statement}
-use Rattle.reporting.proofs.words.put_record.Tie as tie
+use Rattle.report_lines.proofs.put_record.Statement.{statement}
+use Rattle.report_lines.proofs.put_record.Tie as tie
 
 enum-known-outcome : tie.Need-enum-known-outcome
 enum-known-outcome c = search needs

@@ -1,11 +1,11 @@
--- `reporting::words::put_refused` meets its contract. Assumes nothing.
-use Rattle.reporting.proofs.PutLaws.{also, puts, renamed}
-use Rattle.reporting.specs.Report.{blank, numbered, recordLine, refused}
+-- `report_lines::put_refused` meets its contract. Assumes nothing.
+use Rattle.report_lines.proofs.PutLaws.{also, puts, renamed}
+use Rattle.report_lines.specs.Sentences.{blank, numbered, recordLine, refused}
 use native.Mathlib.Omega.{arith}
 use mathlib.Core.Path.{ap}
 use borrow.Author.Needs.{needs}
-use Rattle.reporting.proofs.words.put_refused.Statement.{statement}
-use Rattle.reporting.proofs.words.put_refused.Tie as tie
+use Rattle.report_lines.proofs.put_refused.Statement.{statement}
+use Rattle.report_lines.proofs.put_refused.Tie as tie
 
 number-requires : tie.Need-number-requires
 number-requires c κs = search needs

@@ -1,4 +1,4 @@
-// The lines of the report, put into a lent buffer.
+// The lines of the recast report, put into a lent buffer.
 //
 // Each function answers the place right after what it put. Whoever calls one has room for the longest
 // line: a count of 20 digits, the number of losses and 101 elements are less than 512 bytes.
@@ -8,25 +8,13 @@ use losses::Losses;
 use recasting::Outcome;
 use wording::put_number;
 use wording::put_text;
-ghost use mathlib.Core.Path.{_≡_};
 ghost use Prim.Native.Nat.{_+_, _≤_};
 ghost use lib.ListN.{length};
 ghost use Rattle.losses.specs.Losses.{hasLoss};
 ghost use Rattle.recasting.specs.declared.Outcome.the-variants.{Done, Unrecast};
 ghost use Rattle.wording.specs.Wording.{decimal};
-ghost use Rattle.reporting.specs.Puts.{Puts};
-ghost use Rattle.reporting.specs.Report.{numbered, notHeld, editionNumber, ifLost, lost, recordLine, heading, totals};
-
-// The number that the edition goes by.
-pub fn number_of(edition: Edition) -> u64
-    ensures { λ r. ⌜ r ≡ editionNumber edition ⌝ }
-{
-    match edition {
-        Edition::One => 1,
-        Edition::Three => 3,
-        Edition::Four => 4,
-    }
-}
+ghost use Rattle.report_lines.specs.Puts.{Puts};
+ghost use Rattle.report_lines.specs.Sentences.{numbered, notHeld, ifLost, lost, recordLine, heading, totals};
 
 // Puts the count of a record, which begins its line.
 fn put_count(out: &mut [u8], at: usize, count: u64) -> usize
@@ -119,7 +107,7 @@ pub fn put_heading(out: &mut [u8], at: usize, edition: Edition) -> usize
     ensures { λ r. ⌜ Puts (heading edition) at (now (out .entry)) (now (out .exit)) r ⌝ }
     ensures { λ r. ⌜ r ≤ at + 512 ⌝ }
 {
-    let a = put_numbered(out, at, b"recast to ", number_of(edition));
+    let a = put_numbered(out, at, b"recast to ", edition.number());
     put_text(out, a, b"\n")
 }
 

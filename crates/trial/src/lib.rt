@@ -2,7 +2,7 @@
 // sign, and writing from readings. They are here for the comparison with the other implementation,
 // peer/compare, and for nothing else; the desk's own exports are in the crate desk.
 //
-// What is read is answered as `writing::Parts` has it: the case (0 missing, 1 a code, 2 a text, 3 an
+// What is read is answered as `spelling::Parts` has it: the case (0 missing, 1 a code, 2 a text, 3 an
 // amount, 4 a place); whether the amount or the latitude is below zero, 1 or 0; and three parts: the code,
 // the text's number, or the amount or latitude without its sign; the kind (0 measured, 1 computed, 2 iced
 // measured, 3 iced computed) or the longitude; the digit of column 12.
@@ -21,7 +21,7 @@ ghost use lib.IntN.{pos};
 ghost use lib.ListN.{length, getD};
 ghost use Rattle.checking.specs.Check.{checked, callSignOf};
 ghost use Rattle.reading.specs.Answers.{readOf, foundNumber, foundPlace, foundReading};
-ghost use Rattle.writing.specs.Same.{partsOf};
+ghost use Rattle.spelling.specs.Same.{partsOf};
 ghost use Rattle.writing.specs.Written.{written, after, outcomeNumber, outcomePlace};
 ghost use Rattle.trial.specs.Packed.{kindFrom, readingFrom, readingAt, readingsIn, shownIn};
 
@@ -85,7 +85,7 @@ pub extern "C" fn trial_read(
 {
     let found = reading::read(line, element);
     let at = found_place(found);
-    let parts = writing::parts_of(found_reading(found));
+    let parts = spelling::parts_of(found_reading(found));
     let is_below = bit(parts.below);
     let number = found_number(found);
     *place = at;

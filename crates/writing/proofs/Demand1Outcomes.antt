@@ -15,9 +15,9 @@ use Rattle.layout.specs.declared.Refusal.{Refusal}
 use Rattle.layout.specs.Editions.{asked}
 use Rattle.ties.specs.Ties.{tie}
 use Rattle.reading.specs.declared.Reading.{Reading}
+use Rattle.spelling.specs.Spelled.{recordOf}
 use Rattle.writing.specs.declared.Outcome.{Outcome}
 use Rattle.writing.specs.declared.Outcome.the-variants.{Unwritten}
-use Rattle.writing.specs.Spelled.{recordOf}
 use Rattle.writing.specs.Written.{writes, writtenIn, writtenAs, written, filledBy, afterAs, after}
 use Rattle.writing.specs.Fits.{AllGivable, FitsIn, ungivable, broken, cramped, written as fully, Fits, unheld, held}
 use Rattle.writing.proofs.GivableLaws.{given-writes}

@@ -22,14 +22,14 @@ use Rattle.checking.proofs.Demand2Acceptance.{accepted-exactly}
 use Rattle.reading.specs.declared.Reading.{Reading}
 use Rattle.reading.specs.Readings.{lead, itemOf, readingOf}
 use Rattle.reading.proofs.ReadingLaws.{lead-is}
+use Rattle.spelling.specs.Spelled.{numeralFor, given, recordOf}
+use Rattle.spelling.proofs.SameLaws.{same-self}
+use Rattle.spelling.proofs.RecordLaws.{record-long, record-text}
+use Rattle.spelling.proofs.ElementLaws.{lead-of-lead, element-back}
 use Rattle.writing.specs.declared.Outcome.the-variants.{Done}
-use Rattle.writing.specs.Spelled.{numeralFor, given, recordOf}
 use Rattle.writing.specs.Written.{writes, writtenIn, writtenAs, written, filledBy, afterAs, after}
-use Rattle.writing.proofs.SameLaws.{same-self}
-use Rattle.writing.proofs.RecordLaws.{record-long, record-text}
 use Rattle.layout.proofs.RecordLaws.{same-record}
 use Rattle.writing.proofs.DoneLaws.{means-done}
-use Rattle.writing.proofs.ElementLaws.{lead-of-lead, element-back}
 
 -- readings that are what the elements of an acceptable record read as
 module _ (ed : Edition) (xs : List ℕ) (a : Acceptable ed xs) (rs : List Reading) (as-read : (e : ℕ) → 1 ≤ e → e ≤ 101 → given rs e ≡ readingOf ed xs e) where

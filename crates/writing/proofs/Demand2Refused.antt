@@ -17,15 +17,15 @@ use Rattle.layout.specs.Page.{legal}
 use Rattle.reading.specs.declared.Reading.{Reading}
 use Rattle.reading.specs.Readings.{lead, readingOf}
 use Rattle.reading.proofs.ReadingLaws.{lead-is}
+use Rattle.spelling.specs.Same.{same}
+use Rattle.spelling.specs.Spelled.{given, recordOf}
+use Rattle.spelling.proofs.SameLaws.{same-equal}
+use Rattle.spelling.proofs.RecordLaws.{record-long}
+use Rattle.spelling.proofs.ElementLaws.{lead-of-lead}
 use Rattle.writing.specs.declared.Outcome.{Outcome}
 use Rattle.writing.specs.declared.Outcome.the-variants.{Unwritten}
-use Rattle.writing.specs.Same.{same}
-use Rattle.writing.specs.Spelled.{given, recordOf}
 use Rattle.writing.specs.Written.{writes, writtenIn, outcomeNumber, outcomePlace}
 use Rattle.writing.specs.Givable.{Givable, Ungivable}
-use Rattle.writing.proofs.SameLaws.{same-equal}
-use Rattle.writing.proofs.RecordLaws.{record-long}
-use Rattle.writing.proofs.ElementLaws.{lead-of-lead}
 use Rattle.writing.proofs.GivableLaws.{given-writes}
 use Rattle.writing.proofs.DoneLaws.{WritesBelow, Judged, unwritable, breaking, cramped, kept, judged}
 

@@ -25,11 +25,11 @@ use Rattle.reading.specs.declared.Kind.the-variants.{Measured, Computed}
 use Rattle.reading.specs.declared.Reading.{Reading}
 use Rattle.reading.specs.declared.Reading.the-variants.{Missing, Amount}
 use Rattle.reading.specs.Readings.{temperature, placeOf, itemOf, readingOf}
+use Rattle.spelling.specs.Spelled.{amountNumeral, numeralFor, recordOf}
+use Rattle.spelling.proofs.BackLaws.{greatest}
 use Rattle.writing.specs.declared.Outcome.{Outcome}
 use Rattle.writing.specs.declared.Outcome.the-variants.{Unwritten}
-use Rattle.writing.specs.Spelled.{amountNumeral, numeralFor, recordOf}
 use Rattle.writing.specs.Written.{writes, writtenIn, outcomeNumber, outcomePlace}
-use Rattle.writing.proofs.BackLaws.{greatest}
 use Rattle.writing.proofs.EachLaws.{own-text}
 use Rattle.writing.proofs.DoneLaws.{WritesBelow, Judged, unwritable, breaking, cramped, kept, judged}
 

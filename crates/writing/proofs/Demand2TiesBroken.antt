@@ -17,9 +17,9 @@ use Rattle.reading.specs.declared.Kind.the-variants.{Measured}
 use Rattle.reading.specs.declared.Reading.{Reading}
 use Rattle.reading.specs.declared.Reading.the-variants.{Missing, Code, Amount, At}
 use Rattle.reading.specs.Readings.{plain, temperature, departure, south, west, placeOf, itemOf}
+use Rattle.spelling.specs.Same.{partsOf, same}
+use Rattle.spelling.specs.Spelled.{amountNumeral, placeNumeral, numeralFor, recordOf}
 use Rattle.writing.specs.declared.Outcome.the-variants.{Unwritten}
-use Rattle.writing.specs.Same.{partsOf, same}
-use Rattle.writing.specs.Spelled.{amountNumeral, placeNumeral, numeralFor, recordOf}
 use Rattle.writing.specs.Written.{writes, writtenIn}
 
 unfoldable pub missing : ℕ → List Reading

@@ -16,11 +16,11 @@ use Rattle.checking.proofs.LegalLaws.{legal-record}
 use Rattle.checking.proofs.Demand2Acceptance.{accepted-exactly}
 use Rattle.reading.specs.declared.Reading.{Reading}
 use Rattle.reading.specs.Readings.{readingOf}
+use Rattle.spelling.specs.Spelled.{given, recordOf}
+use Rattle.spelling.proofs.RecordLaws.{record-long}
 use Rattle.writing.specs.declared.Outcome.the-variants.{Done}
-use Rattle.writing.specs.Spelled.{given, recordOf}
 use Rattle.writing.specs.Fits.{TiedBelow}
 use Rattle.writing.specs.Written.{writtenIn, writtenAs, written, filledBy, afterAs, after, outcomeNumber}
-use Rattle.writing.proofs.RecordLaws.{record-long}
 use Rattle.writing.proofs.EachLaws.{every-legal, as-given}
 use Rattle.writing.proofs.DoneLaws.{WritesBelow, done-means}
 

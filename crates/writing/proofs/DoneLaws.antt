@@ -13,9 +13,9 @@ use Rattle.layout.specs.Editions.{lengthOf}
 use Rattle.ties.specs.Ties.{tie}
 use Rattle.reading.specs.declared.Reading.{Reading}
 use Rattle.reading.specs.Readings.{lead}
+use Rattle.spelling.specs.Spelled.{recordOf}
 use Rattle.writing.specs.declared.Outcome.{Outcome}
 use Rattle.writing.specs.declared.Outcome.the-variants.{Done, Unwritten}
-use Rattle.writing.specs.Spelled.{recordOf}
 use Rattle.writing.specs.Fits.{TiedBelow}
 use Rattle.writing.specs.Written.{writes, unwrittenAt, writtenIn, outcomeNumber}
 

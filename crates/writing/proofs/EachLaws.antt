@@ -13,12 +13,12 @@ use Rattle.layout.proofs.Elements.{last-below}
 use Rattle.reading.specs.declared.Reading.{Reading}
 use Rattle.reading.specs.Readings.{lead, itemOf, readingOf}
 use Rattle.reading.proofs.ReadingLaws.{lead-is}
-use Rattle.writing.specs.Same.{same}
-use Rattle.writing.specs.Spelled.{numeralFor, given, recordOf}
+use Rattle.spelling.specs.Same.{same}
+use Rattle.spelling.specs.Spelled.{numeralFor, given, recordOf}
+use Rattle.spelling.proofs.SameLaws.{same-equal}
+use Rattle.spelling.proofs.RecordLaws.{record-text}
+use Rattle.spelling.proofs.ElementLaws.{lead-of-lead}
 use Rattle.writing.specs.Written.{writes}
-use Rattle.writing.proofs.SameLaws.{same-equal}
-use Rattle.writing.proofs.RecordLaws.{record-text}
-use Rattle.writing.proofs.ElementLaws.{lead-of-lead}
 
 module _ (ed : Edition) (rs : List Reading) (each : (e : ℕ) → 1 ≤ e → e < 1 + 101 → writes ed rs (recordOf ed rs) e ≡ true) where
   both : (e : ℕ) → 1 ≤ e → e ≤ 101 → (legal ed (recordOf ed rs) e && same (readingOf ed (recordOf ed rs) e) (given rs e)) ≡ true

@@ -1,14 +1,15 @@
 -- What some legal texts give, the texts that are spelled give: element by element, with those that share its reading. Assumes nothing.
 use mathlib.Core.Path.{_≡_, refl, sym, ap, _∙_}
 use mathlib.Core.Bool.{Bool, true, false, true≢false}
+use mathlib.Core.Logic.{⊎-elim}
 use mathlib.Core.List.{List, [], _∷_}
-use Prim.Native.Nat.{ℕ, _-_, _≤_}
+use Prim.Native.Nat.{ℕ, _+_, _-_, _≤_}
 use native.Mathlib.Omega.{arith}
 use borrow.Author.Tests.{leb-true, leb-false}
 use lib.Dec.{eqb, leb, lit≤}
 use lib.ListN.{length}
-use Rattle.text.specs.Bytes.{every, between, either, blank, number, valueFrom}
-use Rattle.text.specs.declared.Texts.the-variants.{Within, Either}
+use Rattle.text.specs.Bytes.{every, between, blank, number, valueFrom}
+use Rattle.text.specs.declared.Texts.the-variants.{Within}
 use Rattle.text.specs.Texts.{among, allows}
 use Rattle.numerals.specs.Spelling.{spell}
 use Rattle.text.proofs.Among.{at-number, among-cases}
@@ -20,17 +21,16 @@ use Rattle.layout.proofs.Elements.{last-below, in-each}
 use Rattle.reading.specs.declared.Reading.{Reading}
 use Rattle.reading.specs.Readings.{temperature, departure, plain, placeOf, lead, itemOf, readingOf}
 use Rattle.reading.proofs.ReadingLaws.{lead-is}
-use Rattle.writing.specs.Same.{same}
-use Rattle.writing.specs.Spelled.{numeralFor, given, recordOf}
+use Rattle.spelling.specs.Spelled.{numeralFor, given, recordOf}
+use Rattle.spelling.proofs.SameLaws.{same-self}
+use Rattle.spelling.proofs.RecordLaws.{record-long, record-text}
+use Rattle.spelling.proofs.BackLaws.{Holds, empty, holds, greatest, plain-back, departure-back}
+use Rattle.spelling.proofs.ElementLaws.{lead-of-lead, in-digits, sign-texts, value-texts, signs, values, within, hemispheres, of-hemispheres, departures}
+use Rattle.spelling.proofs.GivenLaws.{pair-kept, place-kept}
 use Rattle.writing.specs.Written.{writes}
 use Rattle.writing.specs.Givable.{Givable}
-use Rattle.writing.proofs.SameLaws.{same-self}
-use Rattle.writing.proofs.RecordLaws.{record-long, record-text}
 use Rattle.layout.proofs.RecordLaws.{text-long}
 use Rattle.checking.proofs.PrintLaws.{legal-prints}
-use Rattle.writing.proofs.BackLaws.{Holds, empty, holds, greatest, plain-back, departure-back}
-use Rattle.writing.proofs.ElementLaws.{lead-of-lead, in-digits, few-signs, signs, within, hemispheres, of-hemispheres, departures}
-use Rattle.writing.proofs.GivenLaws.{pair-kept, place-kept}
 
 -- no sign of the air or the sea is 6
 no-six : {A : Type 0} (t : List ℕ) → Holds (between 0 1) t → blank t ≡ false → number t ≡ 6 → A
@@ -100,67 +100,41 @@ module _ (ed : Edition) (rs : List Reading) (e : ℕ) (g : Givable ed rs e) wher
       kept-8 : Sharing 8
       kept-8 h s = let r = places s in (r .1 .1 .0, r .1 .1 .1)
 
+  -- where zero is written the sign is 0, or 5 for a minus that was computed, and that may stand there too
+  zero-sign : (a : ℕ) → among 16 18 28 50 a ≡ true → allows (textsOf ed a) (48 ∷ []) ≡ true
+  unfolding allows valueFrom every
+  zero-sign a g = ⊎-elim (λ t. rw t) (λ t. rw t) (sign-texts ed a g)
+
+  five-sign : (a : ℕ) → among 16 18 28 50 a ≡ true → legal ed xs a ≡ true → blank (textOf a xs) ≡ false → number (textOf a xs) ≡ 6 → allows (textsOf ed a) (53 ∷ []) ≡ true
+  unfolding allows valueFrom every
+  five-sign a g l there six = ⊎-elim (λ t. no-six (textOf a xs) (within ed xs 0 1 a t l) there six) (λ t. rw t) (sign-texts ed a g)
+
   -- a sign and its temperature
   pair : (a b : ℕ) → lead a ≡ lead e → lead b ≡ lead e → among 16 18 28 50 a ≡ true → among 16 18 28 50 b ≡ false → among 17 19 29 51 b ≡ true →
       widthOf a ≡ 1 → widthOf b ≡ 3 → mayBeBlank a ≡ true → mayBeBlank b ≡ true → 1 ≤ a → a ≤ 85 → 1 ≤ b → b ≤ 85 →
-      readingOf ed xs a ≡ temperature (textOf a xs) (textOf b xs) → readingOf ed xs b ≡ temperature (textOf a xs) (textOf b xs) →
-      Holds (either 0 2 5 7) (textOf a xs) → allows (textsOf ed a) (48 ∷ []) ≡ true →
-      (blank (textOf a xs) ≡ false → number (textOf a xs) ≡ 6 → allows (textsOf ed a) (53 ∷ []) ≡ true) → textsOf ed b ≡ Within 0 999 →
-      (legalText ed a (textOf a ys) ≡ true) × ((legalText ed b (textOf b ys) ≡ true) × (temperature (textOf a ys) (textOf b ys) ≡ temperature (textOf a xs) (textOf b xs)))
+      ((zs : List ℕ) → readingOf ed zs a ≡ temperature (textOf a zs) (textOf b zs)) → ((zs : List ℕ) → readingOf ed zs b ≡ temperature (textOf a zs) (textOf b zs)) → Kept a × Kept b
   unfolding legal
-  pair a b s t g n k one three may-a may-b la ha lb hb ra rb sign zero-sign five-sign values =
-      pair-kept ed a b (textOf a xs) (textOf b xs) (textOf a ys) (textOf b ys) g n k one three may-a may-b (long a ha) (long b hb) sign
-      (within ed xs 0 999 b values (lawful b lb (omega arith) t)) (lawful a la (omega arith) s) (lawful b lb (omega arith) t) zero-sign five-sign values
-      (spelled-text a la (held a ha) s ∙ ap (λ (r : Reading). spell (widthOf a) (numeralFor ed a r)) ra)
-      (spelled-text b lb (held b hb) t ∙ ap (λ (r : Reading). spell (widthOf b) (numeralFor ed b r)) rb)
+  pair a b s t g n k one three may-a may-b la ha lb hb ra rb =
+      let sign = lawful a la (omega arith) s in
+      let value = lawful b lb (omega arith) t in
+      let both =
+      pair-kept ed a b (textOf a xs) (textOf b xs) (textOf a ys) (textOf b ys) g n k one three may-a may-b (long a ha) (long b hb) (signs ed xs a g sign) (values ed xs b k value) sign value
+      (zero-sign a g) (five-sign a g sign) (value-texts ed b k)
+      (spelled-text a la (held a ha) s ∙ ap (λ (r : Reading). spell (widthOf a) (numeralFor ed a r)) (ra xs))
+      (spelled-text b lb (held b hb) t ∙ ap (λ (r : Reading). spell (widthOf b) (numeralFor ed b r)) (rb xs)) in
+      ((both .0, ra ys ∙ both .1 .1 ∙ sym (ra xs)), (both .1 .0, rb ys ∙ both .1 .1 ∙ sym (rb xs)))
 
-  abbrev Paired : ℕ → ℕ → Type 0
-  Paired a b =
-      (legalText ed a (textOf a ys) ≡ true) × ((legalText ed b (textOf b ys) ≡ true) × (temperature (textOf a ys) (textOf b ys) ≡ temperature (textOf a xs) (textOf b xs)))
-
-  air : 16 ≡ lead e → Paired 16 17
-  unfolding itemOf element page allows legal valueFrom every
-  air s =
-      let texts = in-each ed 16 (Within 0 1) refl refl refl in
-      pair 16 17 s s refl refl refl refl refl refl refl (lit≤ tt) (lit≤ tt) (lit≤ tt) (lit≤ tt) refl refl (few-signs ed xs 16 texts (lawful 16 (lit≤ tt) (lit≤ tt) s)) (rw texts)
-      (no-six (textOf 16 xs) (within ed xs 0 1 16 texts (lawful 16 (lit≤ tt) (lit≤ tt) s))) (in-each ed 17 (Within 0 999) refl refl refl)
-
-  sea : 28 ≡ lead e → Paired 28 29
-  unfolding itemOf element page allows legal valueFrom every
-  sea s =
-      let texts = in-each ed 28 (Within 0 1) refl refl refl in
-      pair 28 29 s s refl refl refl refl refl refl refl (lit≤ tt) (lit≤ tt) (lit≤ tt) (lit≤ tt) refl refl (few-signs ed xs 28 texts (lawful 28 (lit≤ tt) (lit≤ tt) s)) (rw texts)
-      (no-six (textOf 28 xs) (within ed xs 0 1 28 texts (lawful 28 (lit≤ tt) (lit≤ tt) s))) (in-each ed 29 (Within 0 999) refl refl refl)
-
-  dew-point : 18 ≡ lead e → Paired 18 19
-  unfolding itemOf element page allows legal valueFrom every
-  dew-point s =
-      let texts = in-each ed 18 (Either 0 2 5 7) refl refl refl in
-      pair 18 19 s s refl refl refl refl refl refl refl (lit≤ tt) (lit≤ tt) (lit≤ tt) (lit≤ tt) refl refl (signs ed xs 18 texts (lawful 18 (lit≤ tt) (lit≤ tt) s)) (rw texts)
-      (λ _ _. rw texts) (in-each ed 19 (Within 0 999) refl refl refl)
-
-  wet-bulb : 50 ≡ lead e → Paired 50 51
-  unfolding itemOf element page allows legal valueFrom every
-  wet-bulb s =
-      let texts = in-each ed 50 (Either 0 2 5 7) refl refl refl in
-      pair 50 51 s s refl refl refl refl refl refl refl (lit≤ tt) (lit≤ tt) (lit≤ tt) (lit≤ tt) refl refl (signs ed xs 50 texts (lawful 50 (lit≤ tt) (lit≤ tt) s)) (rw texts)
-      (λ _ _. rw texts) (in-each ed 51 (Within 0 999) refl refl refl)
-
-  kept-signs : (f : ℕ) → among 16 18 28 50 f ≡ true → Sharing f
-  unfolding itemOf legal
-  kept-signs f = among-cases Sharing 16 18 28 50 f
-      (λ h s. let r = air s in (r .0, r .1 .1))
-      (λ h s. let r = dew-point s in (r .0, r .1 .1))
-      (λ h s. let r = sea s in (r .0, r .1 .1))
-      (λ h s. let r = wet-bulb s in (r .0, r .1 .1))
+  -- of the air, the dew point, the sea and the wet bulb
+  pairs : (a : ℕ) → among 16 18 28 50 a ≡ true → lead a ≡ lead e → Kept a × Kept (a + 1)
+  unfolding itemOf element page
+  pairs a = among-cases (λ k. lead k ≡ lead e → Kept k × Kept (k + 1)) 16 18 28 50 a
+      (λ s. pair 16 17 s s refl refl refl refl refl refl refl (lit≤ tt) (lit≤ tt) (lit≤ tt) (lit≤ tt) (λ _. refl) (λ _. refl))
+      (λ s. pair 18 19 s s refl refl refl refl refl refl refl (lit≤ tt) (lit≤ tt) (lit≤ tt) (lit≤ tt) (λ _. refl) (λ _. refl))
+      (λ s. pair 28 29 s s refl refl refl refl refl refl refl (lit≤ tt) (lit≤ tt) (lit≤ tt) (lit≤ tt) (λ _. refl) (λ _. refl))
+      (λ s. pair 50 51 s s refl refl refl refl refl refl refl (lit≤ tt) (lit≤ tt) (lit≤ tt) (lit≤ tt) (λ _. refl) (λ _. refl))
 
   kept-values : (f : ℕ) → among 17 19 29 51 f ≡ true → Sharing f
-  unfolding itemOf legal
-  kept-values f = among-cases Sharing 17 19 29 51 f
-      (λ h s. let r = air s in (r .1 .0, r .1 .1))
-      (λ h s. let r = dew-point s in (r .1 .0, r .1 .1))
-      (λ h s. let r = sea s in (r .1 .0, r .1 .1))
-      (λ h s. let r = wet-bulb s in (r .1 .0, r .1 .1))
+  kept-values f = among-cases Sharing 17 19 29 51 f (λ h s. pairs 16 refl s .1) (λ h s. pairs 18 refl s .1) (λ h s. pairs 28 refl s .1) (λ h s. pairs 50 refl s .1)
 
   -- an element that shares its reading with none: the text is the same, also where the edition has no columns for it
   same-text : (f : ℕ) → (f ≤ lastOf ed → textOf f ys ≡ textOf f xs) → textOf f ys ≡ textOf f xs
@@ -193,7 +167,7 @@ module _ (ed : Edition) (rs : List Reading) (e : ℕ) (g : Givable ed rs e) wher
       by true q r t u a b c d i = kept-7-8 f a h s
       by false true r t u a b c d i = kept-values f b h s
       by false false true t u a b c d i = at-number Sharing f 6 c kept-6 h s
-      by false false false true u a b c d i = kept-signs f d h s
+      by false false false true u a b c d i = pairs f d s .0
       by false false false false true a b c d i = at-number Sharing f 91 i departed h s
       by false false false false false a b c d i = alone f l (rw (a, b, c, d, i)) (rw (a, b, c, d, i)) h s
 

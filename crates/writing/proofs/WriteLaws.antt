@@ -17,8 +17,8 @@ use Rattle.layout.proofs.RecordLaws.{most}
 use Rattle.ties.specs.Ties.{tie}
 use Rattle.reading.specs.declared.Reading.{Reading}
 use Rattle.reading.specs.Readings.{lead}
+use Rattle.spelling.specs.Spelled.{rowFor, recordOf}
 use Rattle.writing.specs.declared.Outcome.the-variants.{Done, Unwritten}
-use Rattle.writing.specs.Spelled.{rowFor, recordOf}
 use Rattle.writing.specs.Written.{writes, writtenIn, writtenAs, afterAs}
 
 -- the front of the row is the record

@@ -10,9 +10,9 @@ use Rattle.layout.specs.declared.Refusal.the-variants.{Illegal, Broken, Unheld,
 use Rattle.layout.specs.Editions.{asked, lengthOf}
 use Rattle.ties.specs.Ties.{tie}
 use Rattle.reading.specs.declared.Reading.{Reading}
+use Rattle.spelling.specs.Spelled.{recordOf}
 use Rattle.writing.specs.declared.Outcome.{Outcome}
 use Rattle.writing.specs.declared.Outcome.the-variants.{Done, Unwritten}
-use Rattle.writing.specs.Spelled.{recordOf}
 use Rattle.writing.specs.Givable.{Givable, Ungivable}
 
 -- legal texts give every reading; every tie below k holds

@@ -9,7 +9,7 @@ use Rattle.layout.specs.Editions.{lengthOf}
 use Rattle.layout.specs.Page.{legal}
 use Rattle.reading.specs.declared.Reading.{Reading}
 use Rattle.reading.specs.Readings.{lead, readingOf}
-use Rattle.writing.specs.Spelled.{given}
+use Rattle.spelling.specs.Spelled.{given}
 
 -- legal texts give the reading of element e: some text as long as the edition's records has them in the columns of e and of the elements that share its
 -- reading, and each of those reads as the reading that is given for it

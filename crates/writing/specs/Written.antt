@@ -16,10 +16,10 @@ use Rattle.layout.specs.Refusals.{numberOf, placeOf}
 use Rattle.ties.specs.Ties.{tie}
 use Rattle.reading.specs.declared.Reading.{Reading}
 use Rattle.reading.specs.Readings.{lead, readingOf}
+use Rattle.spelling.specs.Same.{same}
+use Rattle.spelling.specs.Spelled.{given, recordOf}
 use Rattle.writing.specs.declared.Outcome.{Outcome}
 use Rattle.writing.specs.declared.Outcome.the-variants.{Done, Unwritten}
-use Rattle.writing.specs.Same.{same}
-use Rattle.writing.specs.Spelled.{given, recordOf}
 
 -- element e of the text is legal and reads as the reading that is given for it
 unfoldable pub writes : Edition → List Reading → List ℕ → ℕ → Bool

@@ -1,7 +1,7 @@
 -- `trial::trial_read` meets its contract: it stores and returns what `read` answers. Assumes nothing.
 use Rattle.reading.specs.Answers.{foundNumber, foundPlace, foundReading}
-use Rattle.writing.specs.Same.{partsOf}
-use Rattle.writing.specs.declared.Parts.{Parts}
+use Rattle.spelling.specs.Same.{partsOf}
+use Rattle.spelling.specs.declared.Parts.{Parts}
 use borrow.Author.Needs.{needs}
 use mathlib.Core.Bool.{cond}
 use mathlib.Core.Path.{_∙_, ap}

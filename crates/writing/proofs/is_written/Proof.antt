@@ -1,9 +1,9 @@
 -- `writing::is_written` meets its contract. Assumes nothing.
 use Rattle.text.proofs.Ways.{and-goes-on, and-stops}
-use Rattle.writing.specs.Same.{same}
 use borrow.Author.Needs.{needs}
 use mathlib.Core.Path.{_∙_, ap}
 use Rattle.reading.specs.declared.Reading.{Reading}
+use Rattle.spelling.specs.Same.{same}
 use Rattle.writing.proofs.is_written.Statement.{statement}
 use Rattle.writing.proofs.is_written.Tie as tie
 

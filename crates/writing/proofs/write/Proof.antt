@@ -1,6 +1,5 @@
 -- `writing::write` meets its contract. Assumes nothing.
 use Rattle.writing.proofs.WriteLaws.{at-name, at-name-after}
-use Rattle.writing.specs.Spelled.{given}
 use Rattle.writing.specs.Written.{afterAs, filledBy, writtenAs}
 use borrow.Author.Needs.{needs}
 use lib.ListN.{length}

@@ -8,7 +8,7 @@ use Rattle.reading.specs.declared.Kind.the-variants.{Measured, Computed, IcedMe
 use Rattle.reading.specs.declared.Reading.{Reading}
 use Rattle.reading.specs.declared.Reading.the-variants.{Missing, Code, Text, Amount, At}
 use Rattle.reading.specs.Readings.{negative}
-use Rattle.writing.specs.declared.Parts.{Parts}
+use Rattle.spelling.specs.declared.Parts.{Parts}
 
 abbrev pub kindNumber : Kind → ℕ
 kindNumber Measured = 0

@@ -17,7 +17,7 @@ use Rattle.layout.proofs.Columns.{start-next, start-below, filled}
 use Rattle.layout.proofs.RecordLaws as Records
 use Rattle.reading.specs.declared.Reading.{Reading}
 use Rattle.reading.specs.Readings.{lead}
-use Rattle.writing.specs.Spelled.{numeralFor, given, textFor, rowFor}
+use Rattle.spelling.specs.Spelled.{numeralFor, given, textFor, rowFor}
 
 one-more : (ed : Edition) (rs : List Reading) (e : ℕ) → e ≤ 101 → rowFor ed rs e (101 + 1 - e) ≡ textFor ed rs e ++ rowFor ed rs (e + 1) (101 + 1 - (e + 1))
 unfolding rowFor

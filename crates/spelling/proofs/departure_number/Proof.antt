@@ -1,7 +1,7 @@
--- `writing::departure_number` meets its contract. Assumes nothing.
+-- `spelling::departure_number` meets its contract. Assumes nothing.
 use borrow.Author.Needs.{needs}
-use Rattle.writing.proofs.departure_number.Statement.{statement}
-use Rattle.writing.proofs.departure_number.Tie as tie
+use Rattle.spelling.proofs.departure_number.Statement.{statement}
+use Rattle.spelling.proofs.departure_number.Tie as tie
 
 add-result : tie.Need-add-result
 add-result c = search needs

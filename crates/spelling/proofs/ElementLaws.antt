@@ -1,6 +1,7 @@
 -- The columns of each element of an acceptable record, spelled from its reading, are its columns again. Assumes nothing.
 use mathlib.Core.Path.{_≡_, refl, sym, ap, _∙_}
 use mathlib.Core.Bool.{Bool, true, false, _&&_, _||_}
+use mathlib.Core.Logic.{_⊎_, inl, inr, ⊎-elim}
 use mathlib.Core.List.{List}
 use Prim.Native.Nat.{ℕ, _-_, _≤_}
 use native.Mathlib.Omega.{arith}
@@ -20,11 +21,11 @@ use Rattle.ties.specs.Ties.{tie, signTie}
 use Rattle.checking.specs.Acceptable.{Acceptable}
 use Rattle.reading.specs.declared.Reading.{Reading}
 use Rattle.reading.specs.Readings.{temperature, lead, itemOf, readingOf}
-use Rattle.writing.specs.Spelled.{numeralFor}
+use Rattle.spelling.specs.Spelled.{numeralFor}
 use Rattle.layout.proofs.Elements.{in-each}
 use Rattle.layout.proofs.RecordLaws.{text-long}
 use Rattle.checking.proofs.PrintLaws.{legal-prints}
-use Rattle.writing.proofs.BackLaws.{Holds, empty, holds, greatest, plain-back, sign-back, value-back, departure-back, digit-back, latitude-back, longitude-back}
+use Rattle.spelling.proofs.BackLaws.{Holds, empty, holds, greatest, plain-back, sign-back, value-back, departure-back, digit-back, latitude-back, longitude-back}
 
 -- elements share the reading of one that shares its own with none lower
 pub lead-of-lead : (e : ℕ) → lead (lead e) ≡ lead e
@@ -49,12 +50,33 @@ in-digits p ed xs e f h = by (mayBeBlank e) (blank (textOf e xs)) refl h
     by true false b g = allowed b g
     by false false b g = allowed b g
 
+-- the legal texts of a sign, alike in every edition: 0 and 1 for the air and the sea, computed and iced too for the dew point and the wet bulb; and those of a
+-- temperature
+abbrev SignTexts : Edition → ℕ → Type 0
+SignTexts ed e = (textsOf ed e ≡ Within 0 1) ⊎ (textsOf ed e ≡ Either 0 2 5 7)
+
+pub sign-texts : (ed : Edition) (e : ℕ) → among 16 18 28 50 e ≡ true → SignTexts ed e
+unfolding element page
+sign-texts ed e = among-cases (SignTexts ed) 16 18 28 50 e
+    (inl (in-each ed 16 (Within 0 1) refl refl refl))
+    (inr (in-each ed 18 (Either 0 2 5 7) refl refl refl))
+    (inl (in-each ed 28 (Within 0 1) refl refl refl))
+    (inr (in-each ed 50 (Either 0 2 5 7) refl refl refl))
+
+pub value-texts : (ed : Edition) (e : ℕ) → among 17 19 29 51 e ≡ true → textsOf ed e ≡ Within 0 999
+unfolding element page
+value-texts ed e = among-cases (λ k. textsOf ed k ≡ Within 0 999) 17 19 29 51 e
+    (in-each ed 17 (Within 0 999) refl refl refl)
+    (in-each ed 19 (Within 0 999) refl refl refl)
+    (in-each ed 29 (Within 0 999) refl refl refl)
+    (in-each ed 51 (Within 0 999) refl refl refl)
+
 -- the elements with a sign, a temperature, a place and the departure of a record in which they are legal
 module _ (ed : Edition) (xs : List ℕ) where
   abbrev Legal : ℕ → Type 0
   Legal e = legal ed xs e ≡ true
 
-  pub few-signs : (e : ℕ) → textsOf ed e ≡ Within 0 1 → Legal e → Holds (either 0 2 5 7) (textOf e xs)
+  few-signs : (e : ℕ) → textsOf ed e ≡ Within 0 1 → Legal e → Holds (either 0 2 5 7) (textOf e xs)
   unfolding allows
   few-signs e f h = wider (in-digits (between 0 1) ed xs e (rw f) h)
     where
@@ -65,13 +87,19 @@ module _ (ed : Edition) (xs : List ℕ) where
       wider (empty b) = empty b
       wider (holds b d p) = holds b d (more (number (textOf e xs)) p)
 
-  pub signs : (e : ℕ) → textsOf ed e ≡ Either 0 2 5 7 → Legal e → Holds (either 0 2 5 7) (textOf e xs)
+  all-signs : (e : ℕ) → textsOf ed e ≡ Either 0 2 5 7 → Legal e → Holds (either 0 2 5 7) (textOf e xs)
   unfolding allows
-  signs e f h = in-digits (either 0 2 5 7) ed xs e (rw f) h
+  all-signs e f h = in-digits (either 0 2 5 7) ed xs e (rw f) h
 
   pub within : (a b e : ℕ) → textsOf ed e ≡ Within a b → Legal e → Holds (between a b) (textOf e xs)
   unfolding allows
   within a b e f h = in-digits (between a b) ed xs e (rw f) h
+
+  pub signs : (e : ℕ) → among 16 18 28 50 e ≡ true → Legal e → Holds (either 0 2 5 7) (textOf e xs)
+  signs e g h = ⊎-elim (λ t. few-signs e t h) (λ t. all-signs e t h) (sign-texts ed e g)
+
+  pub values : (e : ℕ) → among 17 19 29 51 e ≡ true → Legal e → Holds (between 0 999) (textOf e xs)
+  values e g h = within 0 999 e (value-texts ed e g) h
 
 -- column 12: octants in edition 1, quadrants in the others
 pub hemispheres : Edition → ℕ → Bool
@@ -97,31 +125,32 @@ module _ (ed : Edition) (xs : List ℕ) (a : Acceptable ed xs) where
   Back e = e ≤ lastOf ed → spell (widthOf e) (numeralFor ed e (readingOf ed xs e)) ≡ textOf e xs
 
   sign-at : (e f : ℕ) → readingOf ed xs e ≡ temperature (textOf e xs) (textOf f xs) → among 16 18 28 50 e ≡ true → signTie (textOf e xs) (textOf f xs) ≡ true →
-      (Legal ed xs e → Holds (either 0 2 5 7) (textOf e xs)) → 1 ≤ e → Back e
-  sign-at e f r g t k p h =
-      ap (λ (x : Reading). spell (widthOf e) (numeralFor ed e x)) r ∙ sign-back ed (textOf e xs) (textOf f xs) t e g (text-long ed xs (a .full) e h) (k (a .lawful e p h))
+      1 ≤ e → Back e
+  sign-at e f r g t p h =
+      ap (λ (x : Reading). spell (widthOf e) (numeralFor ed e x)) r ∙
+      sign-back ed (textOf e xs) (textOf f xs) t e g (text-long ed xs (a .full) e h) (signs ed xs e g (a .lawful e p h))
 
   value-at : (e f : ℕ) → readingOf ed xs f ≡ temperature (textOf e xs) (textOf f xs) → among 16 18 28 50 f ≡ false → among 17 19 29 51 f ≡ true →
-      signTie (textOf e xs) (textOf f xs) ≡ true → textsOf ed f ≡ Within 0 999 → 1 ≤ f → Back f
-  value-at e f r n g t k p h =
+      signTie (textOf e xs) (textOf f xs) ≡ true → 1 ≤ f → Back f
+  value-at e f r n g t p h =
       ap (λ (x : Reading). spell (widthOf f) (numeralFor ed f x)) r ∙
-      value-back ed (textOf e xs) (textOf f xs) t f n g (text-long ed xs (a .full) f h) (within ed xs 0 999 f k (a .lawful f p h))
+      value-back ed (textOf e xs) (textOf f xs) t f n g (text-long ed xs (a .full) f h) (values ed xs f g (a .lawful f p h))
 
   signs-back : (e : ℕ) → among 16 18 28 50 e ≡ true → Back e
-  unfolding itemOf tie element page
+  unfolding itemOf tie
   signs-back e = among-cases Back 16 18 28 50 e
-      (sign-at 16 17 refl refl (a .tied 3 (lit≤ tt) (lit≤ tt)) (few-signs ed xs 16 (in-each ed 16 (Within 0 1) refl refl refl)) (lit≤ tt))
-      (sign-at 18 19 refl refl (a .tied 4 (lit≤ tt) (lit≤ tt)) (signs ed xs 18 (in-each ed 18 (Either 0 2 5 7) refl refl refl)) (lit≤ tt))
-      (sign-at 28 29 refl refl (a .tied 5 (lit≤ tt) (lit≤ tt)) (few-signs ed xs 28 (in-each ed 28 (Within 0 1) refl refl refl)) (lit≤ tt))
-      (sign-at 50 51 refl refl (a .tied 6 (lit≤ tt) (lit≤ tt)) (signs ed xs 50 (in-each ed 50 (Either 0 2 5 7) refl refl refl)) (lit≤ tt))
+      (sign-at 16 17 refl refl (a .tied 3 (lit≤ tt) (lit≤ tt)) (lit≤ tt))
+      (sign-at 18 19 refl refl (a .tied 4 (lit≤ tt) (lit≤ tt)) (lit≤ tt))
+      (sign-at 28 29 refl refl (a .tied 5 (lit≤ tt) (lit≤ tt)) (lit≤ tt))
+      (sign-at 50 51 refl refl (a .tied 6 (lit≤ tt) (lit≤ tt)) (lit≤ tt))
 
   values-back : (e : ℕ) → among 17 19 29 51 e ≡ true → Back e
-  unfolding itemOf tie element page
+  unfolding itemOf tie
   values-back e = among-cases Back 17 19 29 51 e
-      (value-at 16 17 refl refl refl (a .tied 3 (lit≤ tt) (lit≤ tt)) (in-each ed 17 (Within 0 999) refl refl refl) (lit≤ tt))
-      (value-at 18 19 refl refl refl (a .tied 4 (lit≤ tt) (lit≤ tt)) (in-each ed 19 (Within 0 999) refl refl refl) (lit≤ tt))
-      (value-at 28 29 refl refl refl (a .tied 5 (lit≤ tt) (lit≤ tt)) (in-each ed 29 (Within 0 999) refl refl refl) (lit≤ tt))
-      (value-at 50 51 refl refl refl (a .tied 6 (lit≤ tt) (lit≤ tt)) (in-each ed 51 (Within 0 999) refl refl refl) (lit≤ tt))
+      (value-at 16 17 refl refl refl (a .tied 3 (lit≤ tt) (lit≤ tt)) (lit≤ tt))
+      (value-at 18 19 refl refl refl (a .tied 4 (lit≤ tt) (lit≤ tt)) (lit≤ tt))
+      (value-at 28 29 refl refl refl (a .tied 5 (lit≤ tt) (lit≤ tt)) (lit≤ tt))
+      (value-at 50 51 refl refl refl (a .tied 6 (lit≤ tt) (lit≤ tt)) (lit≤ tt))
 
   hemisphere-back : Back 6
   unfolding itemOf tie

@@ -9,7 +9,7 @@ use Rattle.layout.specs.Editions.{lengthOf, lastOf}
 use Rattle.layout.specs.Page.{widthOf, textOf}
 use Rattle.layout.proofs.RecordLaws as Records
 use Rattle.reading.specs.declared.Reading.{Reading}
-use Rattle.writing.specs.Spelled.{textFor, recordOf}
+use Rattle.spelling.specs.Spelled.{textFor, recordOf}
 
 module _ (ed : Edition) (rs : List Reading) where
   text-length : (e : ℕ) → length (textFor ed rs e) ≡ widthOf e

@@ -1,14 +1,13 @@
--- `writing::parts_of` meets its contract. Assumes nothing.
+-- `spelling::parts_of` meets its contract. Assumes nothing.
 use Rattle.reading.proofs.Signs.{itself}
 use Rattle.reading.specs.Readings.{negative}
-use Rattle.writing.proofs.SpellLaws.{amount-parts, at-parts, place-parts}
-use Rattle.writing.specs.Same.{partsOf}
-use Rattle.writing.specs.Spelled.{given}
+use Rattle.spelling.proofs.SpellLaws.{amount-parts, at-parts, place-parts}
+use Rattle.spelling.specs.Same.{partsOf}
 use borrow.Author.Needs.{needs}
 use lib.IntN.{natAbs}
 use mathlib.Core.Path.{_∙_, ap}
-use Rattle.writing.proofs.parts_of.Statement.{statement}
-use Rattle.writing.proofs.parts_of.Tie as tie
+use Rattle.spelling.proofs.parts_of.Statement.{statement}
+use Rattle.spelling.proofs.parts_of.Tie as tie
 
 enum-told : tie.Need-enum-told
 enum-told c = search needs

@@ -1,16 +1,16 @@
--- `writing::put_all` meets its contract. Assumes nothing.
+-- `spelling::put_all` meets its contract. Assumes nothing.
 use Prim.Native.Nat.{_+_, _-_, _≤_, ℕ}
 use Rattle.reading.proofs.ReadingLaws.{lead-is, Lead}
-use Rattle.writing.proofs.RowLaws.{row-end, row-turn, within}
-use Rattle.writing.specs.Spelled.{given, numeralFor, rowFor}
+use Rattle.spelling.proofs.RowLaws.{row-end, row-turn, within}
+use Rattle.spelling.specs.Spelled.{given, numeralFor, rowFor}
 use borrow.Author.Needs.{needs}
 use lib.ListN.{length, take}
 use mathlib.Core.List.{_++_}
 use mathlib.Core.Path.{_∙_, _≡_, ap, refl, sym}
 use native.Mathlib.Omega.{arith}
 use Rattle.layout.specs.Page.{startOf, columns}
-use Rattle.writing.proofs.put_all.Statement.{statement}
-use Rattle.writing.proofs.put_all.Tie as tie
+use Rattle.spelling.proofs.put_all.Statement.{statement}
+use Rattle.spelling.proofs.put_all.Tie as tie
 
 abbrev Inv-loop : tie.InvT-loop
 Inv-loop edition row₀ readings at₀ e₀ row at e = (length row ≡ 159) × ((at ≡ startOf e) × ((1 ≤ e) × ((e ≤ 102) × (take at row ++ rowFor edition readings e (101 + 1 - e) ≡ rowFor edition readings 1 101))))

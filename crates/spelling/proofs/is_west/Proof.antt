@@ -1,8 +1,8 @@
--- `writing::is_west` meets its contract. Assumes nothing.
-use Rattle.writing.proofs.SpellLaws.{west-far}
+-- `spelling::is_west` meets its contract. Assumes nothing.
+use Rattle.spelling.proofs.SpellLaws.{west-far}
 use borrow.Author.Needs.{needs}
-use Rattle.writing.proofs.is_west.Statement.{statement}
-use Rattle.writing.proofs.is_west.Tie as tie
+use Rattle.spelling.proofs.is_west.Statement.{statement}
+use Rattle.spelling.proofs.is_west.Tie as tie
 
 returns : tie.Need-returns
 returns c = west-far _ _ (c .if1 .taken)

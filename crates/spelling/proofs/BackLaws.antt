@@ -22,7 +22,7 @@ use Rattle.ties.specs.Ties.{placeTie, signTie}
 use Rattle.ties.specs.Ties as Ties
 use Rattle.reading.specs.declared.Reading.the-variants.{Missing, Code, Text}
 use Rattle.reading.specs.Readings.{signed, negative, alwaysText, plain, below, kindOf, temperature, departure, south, west, east, placeOf}
-use Rattle.writing.specs.Spelled.{signDigit, amountNumeral, placeNumeral, numeralFor}
+use Rattle.spelling.specs.Spelled.{signDigit, amountNumeral, placeNumeral, numeralFor}
 
 -- a text that is blank, or digits whose number passes the test p
 pub data Holds (p : ℕ → Bool) (t : List ℕ) : Type 0 where

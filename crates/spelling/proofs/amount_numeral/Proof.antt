@@ -1,16 +1,16 @@
--- `writing::amount_numeral` meets its contract. Assumes nothing.
+-- `spelling::amount_numeral` meets its contract. Assumes nothing.
 use Prim.Native.Nat.{_+_, ℕ}
 use Rattle.numerals.specs.Spelling.{inDigits}
 use Rattle.reading.proofs.Signs.{itself}
 use Rattle.reading.specs.Readings.{negative}
-use Rattle.writing.proofs.SpellLaws.{amount-departure, amount-none, amount-sign, amount-value}
-use Rattle.writing.specs.Spelled.{signDigit}
+use Rattle.spelling.proofs.SpellLaws.{amount-departure, amount-none, amount-sign, amount-value}
+use Rattle.spelling.specs.Spelled.{signDigit}
 use borrow.Author.Needs.{needs}
 use lib.IntN.{natAbs}
 use mathlib.Core.Bool.{Bool, cond}
 use mathlib.Core.Path.{_∙_, _≡_, ap, sym}
-use Rattle.writing.proofs.amount_numeral.Statement.{statement}
-use Rattle.writing.proofs.amount_numeral.Tie as tie
+use Rattle.spelling.proofs.amount_numeral.Statement.{statement}
+use Rattle.spelling.proofs.amount_numeral.Tie as tie
 
 departure-of : {x y : Bool} {n m : ℕ} → x ≡ y → n ≡ m → cond x (n + 100) n ≡ cond y (m + 100) m
 departure-of {x} {y} {n} {m} e f = ap (λ (b : Bool). cond b (n + 100) n) e ∙ ap (λ (k : ℕ). cond y (k + 100) k) f

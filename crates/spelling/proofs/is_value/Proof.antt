@@ -1,7 +1,7 @@
--- `writing::is_value` meets its contract. Assumes nothing.
+-- `spelling::is_value` meets its contract. Assumes nothing.
 use borrow.Author.Tests.{ne-eqb}
-use Rattle.writing.proofs.is_value.Statement.{statement}
-use Rattle.writing.proofs.is_value.Tie as tie
+use Rattle.spelling.proofs.is_value.Statement.{statement}
+use Rattle.spelling.proofs.is_value.Tie as tie
 
 returns : tie.Need-returns
 returns c = rw (c .match .keys1)

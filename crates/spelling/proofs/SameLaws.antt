@@ -13,8 +13,8 @@ use Rattle.reading.specs.declared.Kind.the-variants.{Measured, Computed, IcedMe
 use Rattle.reading.specs.declared.Reading.{Reading}
 use Rattle.reading.specs.declared.Reading.the-variants.{Missing, Code, Text, Amount, At}
 use Rattle.reading.specs.Readings.{signed, negative}
-use Rattle.writing.specs.declared.Parts.{Parts}
-use Rattle.writing.specs.Same.{kindNumber, partsOf, sameParts, same}
+use Rattle.spelling.specs.declared.Parts.{Parts}
+use Rattle.spelling.specs.Same.{kindNumber, partsOf, sameParts, same}
 
 -- a number is its sign and its distance from zero
 pub rejoined : (a : ℤ) → signed (negative a) (natAbs a) ≡ a

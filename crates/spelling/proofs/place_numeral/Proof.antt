@@ -1,15 +1,14 @@
--- `writing::place_numeral` meets its contract. Assumes nothing.
+-- `spelling::place_numeral` meets its contract. Assumes nothing.
 use Rattle.numerals.specs.Spelling.{inDigits}
 use Rattle.reading.proofs.Signs.{itself}
-use Rattle.writing.proofs.SpellLaws.{place-digit, place-latitude, place-longitude, place-none}
-use Rattle.writing.specs.Spelled.{given}
+use Rattle.spelling.proofs.SpellLaws.{place-digit, place-latitude, place-longitude, place-none}
 use borrow.Author.Needs.{needs}
 use lib.IntN.{natAbs}
 use mathlib.Core.Bool.{Bool}
 use mathlib.Core.Path.{_∙_, ap, sym}
 use Rattle.reading.specs.Readings.{east}
-use Rattle.writing.proofs.place_numeral.Statement.{statement}
-use Rattle.writing.proofs.place_numeral.Tie as tie
+use Rattle.spelling.proofs.place_numeral.Statement.{statement}
+use Rattle.spelling.proofs.place_numeral.Tie as tie
 
 digits-requires : tie.Need-digits-requires
 digits-requires c κs = search needs

@@ -1,10 +1,9 @@
--- `writing::is_same` meets its contract. Assumes nothing.
-use Rattle.writing.proofs.SpellLaws.{last-part, other-case, other-first, other-second, other-sign}
-use Rattle.writing.specs.Same.{same}
+-- `spelling::is_same` meets its contract. Assumes nothing.
+use Rattle.spelling.proofs.SpellLaws.{last-part, other-case, other-first, other-second, other-sign}
 use borrow.Author.Needs.{needs}
 use borrow.Author.Tests.{not-false, not-true}
-use Rattle.writing.proofs.is_same.Statement.{statement}
-use Rattle.writing.proofs.is_same.Tie as tie
+use Rattle.spelling.proofs.is_same.Statement.{statement}
+use Rattle.spelling.proofs.is_same.Tie as tie
 
 parts-of-requires : tie.Need-parts-of-requires
 parts-of-requires c κs = search needs

@@ -16,9 +16,9 @@ use Rattle.reading.specs.declared.Place.{Place}
 use Rattle.reading.specs.declared.Reading.{Reading}
 use Rattle.reading.specs.declared.Reading.the-variants.{Missing, Code, Text, Amount, At}
 use Rattle.reading.specs.Readings.{negative, west, east}
-use Rattle.writing.specs.Same.{kindNumber, partsOf, sameParts, same}
-use Rattle.writing.specs.declared.Parts.{Parts}
-use Rattle.writing.specs.Spelled.{signDigit, amountNumeral, placeNumeral, numeralFor}
+use Rattle.spelling.specs.Same.{kindNumber, partsOf, sameParts, same}
+use Rattle.spelling.specs.declared.Parts.{Parts}
+use Rattle.spelling.specs.Spelled.{signDigit, amountNumeral, placeNumeral, numeralFor}
 
 -- the reading that an arm was taken at
 pub at-parts : {a b : Reading} → a ≡ b → partsOf b ≡ partsOf a

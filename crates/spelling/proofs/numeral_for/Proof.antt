@@ -1,15 +1,15 @@
--- `writing::numeral_for` meets its contract. Assumes nothing.
+-- `spelling::numeral_for` meets its contract. Assumes nothing.
 use Prim.Native.Nat.{ℕ}
 use Rattle.reading.proofs.Signs.{itself}
-use Rattle.writing.proofs.SpellLaws.{with-fit}
-use Rattle.writing.specs.Spelled.{amountNumeral, given, numeralFor}
+use Rattle.spelling.proofs.SpellLaws.{with-fit}
+use Rattle.spelling.specs.Spelled.{amountNumeral, numeralFor}
 use borrow.Author.Needs.{needs}
 use lib.IntN.{ℤ}
 use mathlib.Core.Path.{_∙_, _≡_, ap, sym}
 use Rattle.layout.specs.declared.Edition.{Edition}
 use Rattle.reading.specs.declared.Reading.{Reading}
-use Rattle.writing.proofs.numeral_for.Statement.{statement}
-use Rattle.writing.proofs.numeral_for.Tie as tie
+use Rattle.spelling.proofs.numeral_for.Statement.{statement}
+use Rattle.spelling.proofs.numeral_for.Tie as tie
 
 -- the reading that an arm was taken at
 at-reading : (ed : Edition) (e : ℕ) {a b : Reading} → a ≡ b → numeralFor ed e b ≡ numeralFor ed e a

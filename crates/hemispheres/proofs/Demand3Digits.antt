@@ -15,7 +15,8 @@ use Rattle.layout.specs.declared.Edition.{Edition}
 use Rattle.layout.specs.declared.Edition.the-variants.{One, Three, Four}
 use Rattle.layout.specs.Page.{element, page}
 use Rattle.ties.specs.Ties.{octantFits}
-use Rattle.reading.specs.Readings.{signed, south, west, east}
+use Rattle.signs.specs.Signed.{signed}
+use Rattle.reading.specs.Readings.{south, west, east}
 use Rattle.hemispheres.specs.Digits.{sameSigned, samePlace, keepsTie, mayStand, suits, lowestDigit}
 use Rattle.hemispheres.proofs.DigitLaws.{unsuited, suited-at}
 use Rattle.hemispheres.proofs.PlaceLaws.{signed-equal, equal-signed, both, Gives, gives}

@@ -12,7 +12,8 @@ use Rattle.text.proofs.First.{end, off, on}
 use Rattle.layout.specs.declared.Edition.{Edition}
 use Rattle.layout.specs.declared.Edition.the-variants.{One, Three, Four}
 use Rattle.layout.specs.Page.{element, page}
-use Rattle.reading.specs.Readings.{signed, south, west, east}
+use Rattle.signs.specs.Signed.{signed}
+use Rattle.reading.specs.Readings.{south, west, east}
 use Rattle.hemispheres.specs.Digits.{sameSigned, samePlace, keepsTie, mayStand, isFirst, crosses, suits, lowestDigit}
 
 -- which digits may stand in column 12

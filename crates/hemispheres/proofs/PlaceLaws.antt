@@ -13,7 +13,8 @@ use Rattle.layout.specs.declared.Edition.{Edition}
 use Rattle.layout.specs.declared.Edition.the-variants.{One, Three, Four}
 use Rattle.layout.specs.Page.{element, page}
 use Rattle.ties.specs.Ties.{octantFits}
-use Rattle.reading.specs.Readings.{signed, negative, south, west}
+use Rattle.signs.specs.Signed.{signed, negative}
+use Rattle.reading.specs.Readings.{south, west}
 use Rattle.hemispheres.specs.Digits.{sameSigned, keepsTie, mayStand}
 
 -- a number is its sign and its distance from zero

@@ -10,7 +10,8 @@ use Rattle.layout.specs.declared.Edition.{Edition}
 use Rattle.layout.specs.declared.Edition.the-variants.{One, Three, Four}
 use Rattle.layout.specs.Page.{textsOf}
 use Rattle.ties.specs.Ties.{octantFits}
-use Rattle.reading.specs.Readings.{signed, negative, south, west, east}
+use Rattle.signs.specs.Signed.{signed, negative}
+use Rattle.reading.specs.Readings.{south, west, east}
 
 abbrev pub sameSigned : ℤ → ℤ → Bool
 sameSigned a b = Bool·beq (negative a) (negative b) && eqb (natAbs a) (natAbs b)

@@ -5,7 +5,8 @@
 use layout::Edition;
 ghost use mathlib.Core.Path.{_≡_};
 ghost use Prim.Native.Nat.{_≤_, _-_};
-ghost use Rattle.reading.specs.Readings.{signed};
+ghost use Rattle.signs.specs.Signed.{signed};
+ghost use Rattle.reading.specs.Readings.{};
 ghost use Rattle.hemispheres.specs.Digits.{sameSigned, samePlace, keepsTie, mayStand, suits, lowestDigit, isFirst, crosses};
 
 // May the digit stand in column 12 of the edition?

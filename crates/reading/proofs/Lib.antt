@@ -1,4 +1,3 @@
 -- The laws of readings that the functions of this crate and of those above it cite.
-pub mod Signs
 pub mod ReadingLaws
 pub mod Demand2Readings

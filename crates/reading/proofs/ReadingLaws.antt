@@ -22,7 +22,8 @@ use Rattle.reading.specs.declared.Kind.{Kind}
 use Rattle.reading.specs.declared.Kind.the-variants.{Measured}
 use Rattle.reading.specs.declared.Reading.{Reading}
 use Rattle.reading.specs.declared.Reading.the-variants.{Missing, Code, Text, Amount, At}
-use Rattle.reading.specs.Readings.{signed, alwaysText, codeOf, plain, below, kindOf, temperature, departure, south, west, east, placeOf, lead, itemOf, readingOf}
+use Rattle.signs.specs.Signed.{signed}
+use Rattle.reading.specs.Readings.{alwaysText, codeOf, plain, below, kindOf, temperature, departure, south, west, east, placeOf, lead, itemOf, readingOf}
 use Rattle.reading.specs.declared.Found.the-variants.{Reads, Unread}
 use Rattle.reading.specs.Answers.{readAfter, readOf}
 
@@ -193,3 +194,12 @@ lead-by e false false p q h = record { low = h; high = le-refl e }
 
 pub lead-is : (e : ℕ) → 1 ≤ e → Lead e (lead e)
 lead-is e h = lead-by e _ _ refl refl h
+
+-- elements share the reading of one that shares its own with none lower
+pub lead-of-lead : (e : ℕ) → lead (lead e) ≡ lead e
+lead-of-lead e = by (among 7 8 7 8 e) (among 17 19 29 51 e) refl refl
+  where
+    by : (x y : Bool) → among 7 8 7 8 e ≡ x → among 17 19 29 51 e ≡ y → lead (lead e) ≡ lead e
+    by true y p q = among-cases (λ k. lead (lead k) ≡ lead k) 7 8 7 8 e refl refl refl refl p
+    by false true p q = among-cases (λ k. lead (lead k) ≡ lead k) 17 19 29 51 e refl refl refl refl q
+    by false false p q = rw (p, q, p, q)

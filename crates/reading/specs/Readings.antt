@@ -1,26 +1,18 @@
 -- What the text of an element reads as, by the kind of element. Assumes nothing.
 use Prim.Native.Nat.{ℕ, _+_, _-_, _%_}
 use mathlib.Core.List.{List}
-use mathlib.Core.Bool.{Bool, true, false, cond, not, _&&_, _||_}
+use mathlib.Core.Bool.{Bool, cond, not, _&&_, _||_}
 use lib.Dec.{eqb, leb}
-use lib.IntN.{ℤ, pos, negsuc, negℤ}
 use Rattle.text.specs.Bytes.{blank, digits, number, word}
 use Rattle.text.specs.Texts.{among}
 use Rattle.layout.specs.declared.Edition.{Edition}
 use Rattle.layout.specs.declared.Edition.the-variants.{One, Three, Four}
 use Rattle.layout.specs.Page.{textOf}
+use Rattle.signs.specs.Signed.{signed}
 use Rattle.reading.specs.declared.Kind.{Kind}
 use Rattle.reading.specs.declared.Kind.the-variants.{Measured, Computed, IcedMeasured, IcedComputed}
 use Rattle.reading.specs.declared.Reading.{Reading}
 use Rattle.reading.specs.declared.Reading.the-variants.{Missing, Code, Text, Amount, At}
-
--- a number with its sign
-abbrev pub signed : Bool → ℕ → ℤ
-signed below n = cond below (negℤ (pos n)) (pos n)
-
-abbrev pub negative : ℤ → Bool
-negative (pos n) = false
-negative (negsuc n) = true
 
 -- call sign, country and column 81 always read as a text
 abbrev pub alwaysText : ℕ → Bool

@@ -8,11 +8,10 @@ use layout::Refusal;
 use layout::page;
 ghost use mathlib.Core.Path.{_≡_};
 ghost use mathlib.Core.Bool.{true};
-ghost use Prim.Native.Nat.{_≤_, _+_, _^_};
-ghost use lib.IntN.{natAbs};
+ghost use Prim.Native.Nat.{_≤_, _+_};
 ghost use lib.ListN.{length};
 ghost use Rattle.text.specs.Texts.{among};
-ghost use Rattle.reading.specs.Readings.{signed, negative, alwaysText, codeOf, plain, below, kindOf, temperature, departure, south, west, east, placeOf, lead, itemOf, readingOf};
+ghost use Rattle.reading.specs.Readings.{alwaysText, codeOf, plain, below, kindOf, temperature, departure, south, west, east, placeOf, lead, itemOf, readingOf};
 ghost use Rattle.reading.specs.Answers.{readAfter, readOf};
 
 // How an amount came about.
@@ -49,13 +48,6 @@ fn wide(n: u32) -> u64
     ensures { λ r. ⌜ r ≡ n ⌝ }
 {
     n as u64
-}
-
-// A number with its sign. Signed numbers are made here and nowhere else.
-fn signed_of(is_below: bool, n: u32) -> i64
-    ensures { λ r. ⌜ r ≡ signed «is_below» n ⌝ }
-{
-    if is_below { -(n as i64) } else { n as i64 }
 }
 
 // Does the element always read as a text?
@@ -128,7 +120,10 @@ fn temperature_of(sign: &[u8], value: &[u8]) -> Reading
     }
     let s = text::number_of(sign);
     let is_below = text::is_among(s, 1, 2, 6, 7);
-    Reading::Amount(signed_of(is_below, text::number_of(value)), kind_of(s))
+    Reading::Amount(
+        signs::signed_of(is_below, text::number_of(value)),
+        kind_of(s),
+    )
 }
 
 // The reading of element 91.
@@ -140,7 +135,7 @@ fn departure_of(text: &[u8]) -> Reading
         return Reading::Missing;
     }
     let n = text::number_of(text);
-    Reading::Amount(signed_of(100 <= n, n % 100), Kind::Measured)
+    Reading::Amount(signs::signed_of(100 <= n, n % 100), Kind::Measured)
 }
 
 // Does the digit give the southern hemisphere?
@@ -196,7 +191,7 @@ fn place_of(edition: Edition, digit: &[u8], latitude: &[u8], longitude: &[u8]) -
     let s = is_south(edition, d);
     let w = is_west(edition, d);
     Reading::At(Place {
-        latitude: signed_of(s, text::number_of(latitude)),
+        latitude: signs::signed_of(s, text::number_of(latitude)),
         longitude: east_of(w, wide(text::number_of(longitude))),
         digit: wide(d),
     })
@@ -288,24 +283,4 @@ pub fn read(line: &[u8], element: u64) -> Found
         Answer::Accepted(edition) => read_in(edition, line, element),
         Answer::Refused(refusal) => Found::Unread(refusal),
     }
-}
-
-// Is the amount below zero?
-pub fn is_negative(a: i64) -> bool
-    ensures { λ r. ⌜ r ≡ negative a ⌝ }
-{
-    a < 0
-}
-
-// How far the amount is from zero. The lowest number of all has no opposite, so one is added before the
-// sign is turned and once more after.
-pub fn magnitude(a: i64) -> u64
-    ensures { λ r. ⌜ r ≡ natAbs a ⌝ }
-    ensures { λ r. ⌜ r ≤ 2 ^ 63 ⌝ }
-{
-    if 0 <= a {
-        return a as u64;
-    }
-    let above = -(a + 1);
-    (above as u64) + 1
 }

@@ -29,10 +29,10 @@ use writing::Outcome;
 
 // A number that may be below zero, with its sign before it.
 fn say_signed(n: i64) {
-    if reading::is_negative(n) {
+    if signs::is_negative(n) {
         say(b"-");
     }
-    say_number(reading::magnitude(n));
+    say_number(signs::magnitude(n));
 }
 
 fn say_kind(kind: Kind) {

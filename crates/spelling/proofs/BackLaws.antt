@@ -21,7 +21,8 @@ use Rattle.layout.specs.Page.{element, page, widthOf}
 use Rattle.ties.specs.Ties.{placeTie, signTie}
 use Rattle.ties.specs.Ties as Ties
 use Rattle.reading.specs.declared.Reading.the-variants.{Missing, Code, Text}
-use Rattle.reading.specs.Readings.{signed, negative, alwaysText, plain, below, kindOf, temperature, departure, south, west, east, placeOf}
+use Rattle.signs.specs.Signed.{signed, negative}
+use Rattle.reading.specs.Readings.{alwaysText, plain, below, kindOf, temperature, departure, south, west, east, placeOf}
 use Rattle.spelling.specs.Spelled.{signDigit, amountNumeral, placeNumeral, numeralFor}
 
 -- a text that is blank, or digits whose number passes the test p

@@ -20,21 +20,12 @@ use Rattle.layout.specs.Page.{page, element, widthOf, textOf, textsOf, mayBeBla
 use Rattle.ties.specs.Ties.{tie, signTie}
 use Rattle.checking.specs.Acceptable.{Acceptable}
 use Rattle.reading.specs.declared.Reading.{Reading}
-use Rattle.reading.specs.Readings.{temperature, lead, itemOf, readingOf}
+use Rattle.reading.specs.Readings.{temperature, itemOf, readingOf}
 use Rattle.spelling.specs.Spelled.{numeralFor}
 use Rattle.layout.proofs.Elements.{in-each}
 use Rattle.layout.proofs.RecordLaws.{text-long}
 use Rattle.checking.proofs.PrintLaws.{legal-prints}
 use Rattle.spelling.proofs.BackLaws.{Holds, empty, holds, greatest, plain-back, sign-back, value-back, departure-back, digit-back, latitude-back, longitude-back}
-
--- elements share the reading of one that shares its own with none lower
-pub lead-of-lead : (e : ℕ) → lead (lead e) ≡ lead e
-lead-of-lead e = by (among 7 8 7 8 e) (among 17 19 29 51 e) refl refl
-  where
-    by : (x y : Bool) → among 7 8 7 8 e ≡ x → among 17 19 29 51 e ≡ y → lead (lead e) ≡ lead e
-    by true y p q = among-cases (λ k. lead (lead k) ≡ lead k) 7 8 7 8 e refl refl refl refl p
-    by false true p q = among-cases (λ k. lead (lead k) ≡ lead k) 17 19 29 51 e refl refl refl refl q
-    by false false p q = rw (p, q, p, q)
 
 -- a text that is legal in digits
 pub in-digits : (p : ℕ → Bool) (ed : Edition) (xs : List ℕ) (e : ℕ) → allows (textsOf ed e) (textOf e xs) ≡ (digits (textOf e xs) && p (number (textOf e xs))) →

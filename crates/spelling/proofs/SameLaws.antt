@@ -12,7 +12,7 @@ use Rattle.reading.specs.declared.Kind.{Kind}
 use Rattle.reading.specs.declared.Kind.the-variants.{Measured, Computed, IcedMeasured, IcedComputed}
 use Rattle.reading.specs.declared.Reading.{Reading}
 use Rattle.reading.specs.declared.Reading.the-variants.{Missing, Code, Text, Amount, At}
-use Rattle.reading.specs.Readings.{signed, negative}
+use Rattle.signs.specs.Signed.{signed, negative}
 use Rattle.spelling.specs.declared.Parts.{Parts}
 use Rattle.spelling.specs.Same.{kindNumber, partsOf, sameParts, same}
 

@@ -15,7 +15,8 @@ use Rattle.reading.specs.declared.Kind.{Kind}
 use Rattle.reading.specs.declared.Place.{Place}
 use Rattle.reading.specs.declared.Reading.{Reading}
 use Rattle.reading.specs.declared.Reading.the-variants.{Missing, Code, Text, Amount, At}
-use Rattle.reading.specs.Readings.{negative, west, east}
+use Rattle.signs.specs.Signed.{negative}
+use Rattle.reading.specs.Readings.{west, east}
 use Rattle.spelling.specs.Same.{kindNumber, partsOf, sameParts, same}
 use Rattle.spelling.specs.declared.Parts.{Parts}
 use Rattle.spelling.specs.Spelled.{signDigit, amountNumeral, placeNumeral, numeralFor}

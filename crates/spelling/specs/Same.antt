@@ -7,7 +7,7 @@ use Rattle.reading.specs.declared.Kind.{Kind}
 use Rattle.reading.specs.declared.Kind.the-variants.{Measured, Computed, IcedMeasured, IcedComputed}
 use Rattle.reading.specs.declared.Reading.{Reading}
 use Rattle.reading.specs.declared.Reading.the-variants.{Missing, Code, Text, Amount, At}
-use Rattle.reading.specs.Readings.{negative}
+use Rattle.signs.specs.Signed.{negative}
 use Rattle.spelling.specs.declared.Parts.{Parts}
 
 abbrev pub kindNumber : Kind → ℕ

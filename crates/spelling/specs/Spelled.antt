@@ -16,7 +16,8 @@ use Rattle.reading.specs.declared.Kind.the-variants.{Measured, Computed, IcedMe
 use Rattle.reading.specs.declared.Place.{Place}
 use Rattle.reading.specs.declared.Reading.{Reading}
 use Rattle.reading.specs.declared.Reading.the-variants.{Missing, Code, Text, Amount, At}
-use Rattle.reading.specs.Readings.{negative, west, east, lead}
+use Rattle.signs.specs.Signed.{negative}
+use Rattle.reading.specs.Readings.{west, east, lead}
 
 -- the sign of an amount: 0, 1 measured, 5, 6 computed, 2 and 7 iced
 abbrev pub signDigit : Bool → Kind → ℕ

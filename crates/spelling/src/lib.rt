@@ -68,15 +68,15 @@ pub fn parts_of(reading: Reading) -> Parts
         },
         Reading::Amount(a, kind) => Parts {
             case: 3,
-            below: reading::is_negative(a),
-            first: reading::magnitude(a),
+            below: signs::is_negative(a),
+            first: signs::magnitude(a),
             second: kind_number(kind),
             third: 0,
         },
         Reading::At(place) => Parts {
             case: 4,
-            below: reading::is_negative(place.latitude),
-            first: reading::magnitude(place.latitude),
+            below: signs::is_negative(place.latitude),
+            first: signs::magnitude(place.latitude),
             second: place.longitude,
             third: place.digit,
         },
@@ -141,8 +141,8 @@ fn is_value(e: usize) -> bool
 fn amount_numeral(e: usize, a: i64, kind: Kind) -> Numeral
     ensures { λ r. ⌜ r ≡ amountNumeral e a kind ⌝ }
 {
-    let below = reading::is_negative(a);
-    let n = reading::magnitude(a);
+    let below = signs::is_negative(a);
+    let n = signs::magnitude(a);
     if reading::is_sign(e) {
         return Numeral::digits(sign_digit(below, kind));
     }
@@ -171,7 +171,7 @@ fn place_numeral(edition: Edition, e: usize, place: Place) -> Numeral
 {
     match e {
         6 => Numeral::digits(place.digit),
-        7 => Numeral::digits(reading::magnitude(place.latitude)),
+        7 => Numeral::digits(signs::magnitude(place.latitude)),
         8 => Numeral::digits(reading::east_of(is_west(edition, place.digit), place.longitude)),
         _ => Numeral::blanks(),
     }

@@ -21,11 +21,11 @@ use Rattle.checking.specs.Acceptable.{Acceptable}
 use Rattle.checking.proofs.Demand2Acceptance.{accepted-exactly}
 use Rattle.reading.specs.declared.Reading.{Reading}
 use Rattle.reading.specs.Readings.{lead, itemOf, readingOf}
-use Rattle.reading.proofs.ReadingLaws.{lead-is}
+use Rattle.reading.proofs.ReadingLaws.{lead-is, lead-of-lead}
 use Rattle.spelling.specs.Spelled.{numeralFor, given, recordOf}
 use Rattle.spelling.proofs.SameLaws.{same-self}
 use Rattle.spelling.proofs.RecordLaws.{record-long, record-text}
-use Rattle.spelling.proofs.ElementLaws.{lead-of-lead, element-back}
+use Rattle.spelling.proofs.ElementLaws.{element-back}
 use Rattle.writing.specs.declared.Outcome.the-variants.{Done}
 use Rattle.writing.specs.Written.{writes, writtenIn, writtenAs, written, filledBy, afterAs, after}
 use Rattle.layout.proofs.RecordLaws.{same-record}

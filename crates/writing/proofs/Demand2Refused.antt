@@ -16,12 +16,11 @@ use Rattle.layout.specs.declared.Refusal.the-variants.{Illegal}
 use Rattle.layout.specs.Page.{legal}
 use Rattle.reading.specs.declared.Reading.{Reading}
 use Rattle.reading.specs.Readings.{lead, readingOf}
-use Rattle.reading.proofs.ReadingLaws.{lead-is}
+use Rattle.reading.proofs.ReadingLaws.{lead-is, lead-of-lead}
 use Rattle.spelling.specs.Same.{same}
 use Rattle.spelling.specs.Spelled.{given, recordOf}
 use Rattle.spelling.proofs.SameLaws.{same-equal}
 use Rattle.spelling.proofs.RecordLaws.{record-long}
-use Rattle.spelling.proofs.ElementLaws.{lead-of-lead}
 use Rattle.writing.specs.declared.Outcome.{Outcome}
 use Rattle.writing.specs.declared.Outcome.the-variants.{Unwritten}
 use Rattle.writing.specs.Written.{writes, writtenIn, outcomeNumber, outcomePlace}

@@ -12,12 +12,11 @@ use Rattle.layout.specs.Page.{widthOf, textOf, legal}
 use Rattle.layout.proofs.Elements.{last-below}
 use Rattle.reading.specs.declared.Reading.{Reading}
 use Rattle.reading.specs.Readings.{lead, itemOf, readingOf}
-use Rattle.reading.proofs.ReadingLaws.{lead-is}
+use Rattle.reading.proofs.ReadingLaws.{lead-is, lead-of-lead}
 use Rattle.spelling.specs.Same.{same}
 use Rattle.spelling.specs.Spelled.{numeralFor, given, recordOf}
 use Rattle.spelling.proofs.SameLaws.{same-equal}
 use Rattle.spelling.proofs.RecordLaws.{record-text}
-use Rattle.spelling.proofs.ElementLaws.{lead-of-lead}
 use Rattle.writing.specs.Written.{writes}
 
 module _ (ed : Edition) (rs : List Reading) (each : (e : ℕ) → 1 ≤ e → e < 1 + 101 → writes ed rs (recordOf ed rs) e ≡ true) where

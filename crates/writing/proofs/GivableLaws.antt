@@ -20,12 +20,12 @@ use Rattle.layout.proofs.Beyond.{last-above, text-none}
 use Rattle.layout.proofs.Elements.{last-below, in-each}
 use Rattle.reading.specs.declared.Reading.{Reading}
 use Rattle.reading.specs.Readings.{temperature, departure, plain, placeOf, lead, itemOf, readingOf}
-use Rattle.reading.proofs.ReadingLaws.{lead-is}
+use Rattle.reading.proofs.ReadingLaws.{lead-is, lead-of-lead}
 use Rattle.spelling.specs.Spelled.{numeralFor, given, recordOf}
 use Rattle.spelling.proofs.SameLaws.{same-self}
 use Rattle.spelling.proofs.RecordLaws.{record-long, record-text}
 use Rattle.spelling.proofs.BackLaws.{Holds, empty, holds, greatest, plain-back, departure-back}
-use Rattle.spelling.proofs.ElementLaws.{lead-of-lead, in-digits, sign-texts, value-texts, signs, values, within, hemispheres, of-hemispheres, departures}
+use Rattle.spelling.proofs.ElementLaws.{in-digits, sign-texts, value-texts, signs, values, within, hemispheres, of-hemispheres, departures}
 use Rattle.spelling.proofs.GivenLaws.{pair-kept, place-kept}
 use Rattle.writing.specs.Written.{writes}
 use Rattle.writing.specs.Givable.{Givable}

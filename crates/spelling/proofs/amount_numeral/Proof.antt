@@ -1,8 +1,8 @@
 -- `spelling::amount_numeral` meets its contract. Assumes nothing.
 use Prim.Native.Nat.{_+_, ℕ}
 use Rattle.numerals.specs.Spelling.{inDigits}
-use Rattle.reading.proofs.Signs.{itself}
-use Rattle.reading.specs.Readings.{negative}
+use Rattle.signs.proofs.Signs.{itself}
+use Rattle.signs.specs.Signed.{negative}
 use Rattle.spelling.proofs.SpellLaws.{amount-departure, amount-none, amount-sign, amount-value}
 use Rattle.spelling.specs.Spelled.{signDigit}
 use borrow.Author.Needs.{needs}

@@ -1,6 +1,6 @@
 -- `spelling::numeral_for` meets its contract. Assumes nothing.
 use Prim.Native.Nat.{ℕ}
-use Rattle.reading.proofs.Signs.{itself}
+use Rattle.signs.proofs.Signs.{itself}
 use Rattle.spelling.proofs.SpellLaws.{with-fit}
 use Rattle.spelling.specs.Spelled.{amountNumeral, numeralFor}
 use borrow.Author.Needs.{needs}

@@ -1,6 +1,6 @@
 -- `spelling::parts_of` meets its contract. Assumes nothing.
-use Rattle.reading.proofs.Signs.{itself}
-use Rattle.reading.specs.Readings.{negative}
+use Rattle.signs.proofs.Signs.{itself}
+use Rattle.signs.specs.Signed.{negative}
 use Rattle.spelling.proofs.SpellLaws.{amount-parts, at-parts, place-parts}
 use Rattle.spelling.specs.Same.{partsOf}
 use borrow.Author.Needs.{needs}

@@ -1,6 +1,6 @@
 -- `spelling::place_numeral` meets its contract. Assumes nothing.
 use Rattle.numerals.specs.Spelling.{inDigits}
-use Rattle.reading.proofs.Signs.{itself}
+use Rattle.signs.proofs.Signs.{itself}
 use Rattle.spelling.proofs.SpellLaws.{place-digit, place-latitude, place-longitude, place-none}
 use borrow.Author.Needs.{needs}
 use lib.IntN.{natAbs}

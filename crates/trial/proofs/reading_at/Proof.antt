@@ -1,5 +1,5 @@
 -- `trial::reading_at` meets its contract. Assumes nothing.
-use Rattle.reading.proofs.Signs.{itself}
+use Rattle.signs.proofs.Signs.{itself}
 use Rattle.trial.proofs.PackedLaws.{read-at}
 use borrow.Author.Needs.{needs}
 use mathlib.Core.Path.{_∙_}

@@ -1,5 +1,5 @@
 -- `trial::reading_of` meets its contract. Assumes nothing.
-use Rattle.reading.proofs.Signs.{itself}
+use Rattle.signs.proofs.Signs.{itself}
 use Rattle.trial.specs.Packed.{readingFrom}
 use borrow.Author.Needs.{needs}
 use borrow.Author.Tests.{ne-eqb}

@@ -2,7 +2,6 @@
 use Rattle.writing.proofs.WriteLaws.{breaks, done, filled-up, is-record, no-room, not-writable, record-length, within-row}
 use Rattle.writing.specs.Written.{filledBy}
 use borrow.Author.Needs.{needs}
-use lib.ListN.{length}
 use mathlib.Core.Path.{refl}
 use native.Mathlib.Omega.{arith}
 use Rattle.writing.proofs.write_in.Statement.{statement}

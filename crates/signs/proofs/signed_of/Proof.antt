@@ -1,10 +1,10 @@
--- `reading::signed_of` meets its contract. Assumes nothing.
-use Rattle.reading.proofs.Signs.{minus-fits, minus-is, plus-is}
+-- `signs::signed_of` meets its contract. Assumes nothing.
+use Rattle.signs.proofs.Signs.{minus-fits, minus-is, plus-is}
 use borrow.Author.Needs.{needs}
 use mir.Syntax.{w64}
 use native.Mathlib.Omega.{arith}
-use Rattle.reading.proofs.signed_of.Statement.{statement}
-use Rattle.reading.proofs.signed_of.Tie as tie
+use Rattle.signs.proofs.signed_of.Statement.{statement}
+use Rattle.signs.proofs.signed_of.Tie as tie
 
 cast-result : tie.Need-cast-result
 cast-result c = search needs

@@ -1,7 +1,7 @@
--- `reading::magnitude` meets its contract. Assumes nothing.
-use Rattle.reading.proofs.Signs.{down, most, up-fits, up-is, up-most}
-use Rattle.reading.proofs.magnitude.Statement.{statement}
-use Rattle.reading.proofs.magnitude.Tie as tie
+-- `signs::magnitude` meets its contract. Assumes nothing.
+use Rattle.signs.proofs.Signs.{down, most, up-fits, up-is, up-most}
+use Rattle.signs.proofs.magnitude.Statement.{statement}
+use Rattle.signs.proofs.magnitude.Tie as tie
 
 cast-result : tie.Need-cast-result
 cast-result c = up-fits _ (c .before .fits .a) (c .if1 .taken)

@@ -12,7 +12,7 @@ use lib.Signed.{mag, ltZ, leZ, nonNeg}
 use mir.Syntax.{Width, w64}
 use mir.Val.{hbits, Fits, SFits, toZ, ofZ}
 use mir.Facts.{toZ-ofZ, toZ-pos}
-use Rattle.reading.specs.Readings.{signed, negative}
+use Rattle.signs.specs.Signed.{signed, negative}
 
 mag-neg : (n : ℕ) → mag (negℤ (pos n)) ≤ n
 mag-neg zero = omega arith

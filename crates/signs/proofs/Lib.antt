@@ -1,0 +1,2 @@
+-- The laws of signed numbers that the functions of this crate cite.
+pub mod Signs

@@ -77,20 +77,28 @@ module _ (from to : Edition) (e : ℕ) (t : List ℕ) where
     unfolding lettered lookup allows
     not-had h = not-allowed false (ap (λ (l : ℕ). allows (lettered l) t) (sym h)) refl
 
-  -- the same texts and one sense: what is legal in one edition is kept in the other
-  pub alike-kept : textsOf from e ≡ textsOf to e → hasSenses e ≡ false → legalText from e t ≡ true → lostText from to e t ≡ false
+  -- what is blank, or one of the target's texts in the one sense that the element has, is not lost
+  in-texts : hasSenses e ≡ false → (blank t || allows (textsOf to e) t) ≡ true → lostText from to e t ≡ false
   unfolding lostText keeps
-  alike-kept same-texts none legal = by (blank t) (mayBeBlank e) refl legal
+  in-texts none h = by (blank t) h
     where
-      kept-here : allows (textsOf from e) t ≡ true → (x y : Bool) → not (x || (y || (allows (textsOf to e) t && sameSense (senseOf from e t) (senseOf to e t)))) ≡ false
+      kept-here : allows (textsOf to e) t ≡ true → (x y : Bool) → not (x || (y || (allows (textsOf to e) t && sameSense (senseOf from e t) (senseOf to e t)))) ≡ false
       kept-here l true y = refl
       kept-here l false true = refl
-      kept-here l false false = rw (← same-texts, l, always-same e none from to t)
+      kept-here l false false = rw (l, always-same e none from to t)
 
-      by : (b m : Bool) → blank t ≡ b → ((m && b) || allows (textsOf from e) t) ≡ true → (not b && not (keeps from to e t)) ≡ false
-      by true m q l = refl
-      by false true q l = kept-here l (eqb e 6) (eqb e 65)
-      by false false q l = kept-here l (eqb e 6) (eqb e 65)
+      by : (b : Bool) → (b || allows (textsOf to e) t) ≡ true → (not b && not (keeps from to e t)) ≡ false
+      by true l = refl
+      by false l = kept-here l (eqb e 6) (eqb e 65)
+
+  -- the same texts and one sense: what is legal in one edition is kept in the other
+  pub alike-kept : textsOf from e ≡ textsOf to e → hasSenses e ≡ false → legalText from e t ≡ true → lostText from to e t ≡ false
+  alike-kept same-texts none legal = in-texts none (by (mayBeBlank e) (blank t) (ap (λ (s : Texts). (mayBeBlank e && blank t) || allows s t) (sym same-texts) ∙ legal))
+    where
+      by : (m b : Bool) → ((m && b) || allows (textsOf to e) t) ≡ true → (b || allows (textsOf to e) t) ≡ true
+      by m true l = refl
+      by true false l = l
+      by false false l = l
 
   -- column 12 and column 111 have rules of their own
   by-rule : (b x : Bool) → x ≡ true → (not b && not x) ≡ false
@@ -106,32 +114,25 @@ module _ (from to : Edition) (e : ℕ) (t : List ℕ) where
   version-kept h = by-rule (blank t) (keeps from to e t) (sym (kept-version h))
 
   -- no element before column 70 is lost, and none of columns 81 to 109
+  one : (e ≡ 40 → ⊥) → (e ≡ 41 → ⊥) → (e ≡ 43 → ⊥) → hasSenses e ≡ false
+  one a b c = rw (ne-eqb e 40 a, ne-eqb e 41 b, ne-eqb e 43 c)
+
   pub early-kept : e ≤ 39 → legalText from e t ≡ true → lostText from to e t ≡ false
   early-kept h legal = by (eqb e 6) refl
     where
       by : (x : Bool) → eqb e 6 ≡ x → lostText from to e t ≡ false
       by true p = column-12-kept (eqb-true e 6 p)
-      by false p = alike-kept (early-alike e h (eqb-false e 6 p) from to) (rw (ne-eqb e 40 (λ q. omega arith), ne-eqb e 41 (λ q. omega arith), ne-eqb e 43 (λ q. omega arith))) legal
+      by false p = alike-kept (early-alike e h (eqb-false e 6 p) from to) (one (λ q. omega arith) (λ q. omega arith) (λ q. omega arith)) legal
 
   pub added-kept : 44 ≤ e → e ≤ 63 → legalText from e t ≡ true → lostText from to e t ≡ false
-  added-kept l h legal = alike-kept (added-alike e l h from to) (rw (ne-eqb e 40 (λ q. omega arith), ne-eqb e 41 (λ q. omega arith), ne-eqb e 43 (λ q. omega arith))) legal
+  added-kept l h legal = alike-kept (added-alike e l h from to) (one (λ q. omega arith) (λ q. omega arith) (λ q. omega arith)) legal
 
   pub same-letter : (was becomes : ℕ) → lettered was ≡ textsOf from e → lettered becomes ≡ textsOf to e → was ≡ becomes → hasSenses e ≡ false → legalText from e t ≡ true → lostText from to e t ≡ false
   same-letter was becomes f g h none legal = alike-kept (sym f ∙ ap lettered h ∙ g) none legal
 
-  -- blank, or one of the target's texts in the one sense that the element has
+  -- the same by the target's letter
   pub in-target : (becomes : ℕ) → lettered becomes ≡ textsOf to e → hasSenses e ≡ false → (blank t || allows (lettered becomes) t) ≡ true → lostText from to e t ≡ false
-  unfolding lostText keeps
-  in-target becomes g none h = by (blank t) h
-    where
-      kept-here : allows (lettered becomes) t ≡ true → (x y : Bool) → not (x || (y || (allows (textsOf to e) t && sameSense (senseOf from e t) (senseOf to e t)))) ≡ false
-      kept-here l true y = refl
-      kept-here l false true = refl
-      kept-here l false false = rw (← g, l, always-same e none from to t)
-
-      by : (b : Bool) → (b || allows (lettered becomes) t) ≡ true → (not b && not (keeps from to e t)) ≡ false
-      by true l = refl
-      by false l = kept-here l (eqb e 6) (eqb e 65)
+  in-target becomes g none h = in-texts none (ap (λ (s : Texts). blank t || allows s t) (sym g) ∙ h)
 
   pub blank-kept : (b : Bool) → b ≡ blank t → b ≡ true → false ≡ lostText from to e t
   unfolding lostText

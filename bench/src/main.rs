@@ -8,6 +8,7 @@ use std::fs::File;
 use std::hint::black_box;
 use std::io::{self, BufWriter, Write};
 use std::process::{Command, ExitCode, Stdio};
+use std::rc::Rc;
 use std::time::Instant;
 
 use peer::layout::Edition;
@@ -41,7 +42,16 @@ fn our_recast(record: &[u8], edition: u64, buffer: &mut [u8]) -> Numbers {
     let (mut place, mut low, mut high) = (0, 0, 0);
     // The slices do not overlap: one is shared and the other is not.
     let number = unsafe {
-        immt_recast(record.as_ptr(), record.len(), edition, buffer.as_mut_ptr(), buffer.len(), &mut place, &mut low, &mut high)
+        immt_recast(
+            record.as_ptr(),
+            record.len(),
+            edition,
+            buffer.as_mut_ptr(),
+            buffer.len(),
+            &mut place,
+            &mut low,
+            &mut high,
+        )
     };
     (number, place, low, high)
 }
@@ -79,37 +89,70 @@ fn round(records: &[Vec<u8>], run: &mut dyn FnMut(&[u8]) -> Numbers) -> f64 {
     start.elapsed().as_nanos() as f64 / records.len() as f64
 }
 
-/// Both on the same records, in turn, so that what else the machine does falls on both.
-fn compare(name: &str, records: &[Vec<u8>], ours: &mut dyn FnMut(&[u8]) -> Numbers, theirs: &mut dyn FnMut(&[u8]) -> Numbers) {
-    for record in records {
-        assert_eq!(ours(record), theirs(record), "the two differ");
-    }
-    let (mut our_best, mut their_best) = (f64::INFINITY, f64::INFINITY);
-    for _ in 0..300 {
-        our_best = our_best.min(round(records, ours));
-        their_best = their_best.min(round(records, theirs));
-    }
-    println!("{name}: ours {our_best:.0} ns, peer {their_best:.0} ns, ratio {:.1}", our_best / their_best);
+/// A call on some records, and the best of its rounds so far, ours and the peer's.
+struct Case {
+    name: String,
+    records: Rc<Vec<Vec<u8>>>,
+    /// The edition that is recast to; none where the record is checked.
+    to: Option<u64>,
+    ours: f64,
+    theirs: f64,
 }
 
+impl Case {
+    fn new(name: String, records: &Rc<Vec<Vec<u8>>>, to: Option<u64>) -> Case {
+        Case { name, records: Rc::clone(records), to, ours: f64::INFINITY, theirs: f64::INFINITY }
+    }
+
+    fn ours(&self, record: &[u8], buffer: &mut [u8]) -> Numbers {
+        self.to.map_or_else(|| our_check(record), |to| our_recast(record, to, buffer))
+    }
+
+    fn theirs(&self, record: &[u8], buffer: &mut [u8]) -> Numbers {
+        self.to.map_or_else(|| their_check(record), |to| their_recast(record, to, buffer))
+    }
+
+    /// Both answer the same, and leave the same in the lent buffer.
+    fn agree(&self) {
+        for record in self.records.iter() {
+            let (mut a, mut b) = ([0u8; 160], [0u8; 160]);
+            assert_eq!(self.ours(record, &mut a), self.theirs(record, &mut b), "the two differ");
+            assert_eq!(a, b, "the two leave another buffer");
+        }
+    }
+
+    /// Rounds over the records, in turn, so that what else the machine does falls on both.
+    fn time(&mut self, rounds: usize) {
+        let mut buffer = [0u8; 160];
+        for _ in 0..rounds {
+            let ours = round(&self.records, &mut |record| self.ours(record, &mut buffer));
+            let theirs = round(&self.records, &mut |record| self.theirs(record, &mut buffer));
+            self.ours = self.ours.min(ours);
+            self.theirs = self.theirs.min(theirs);
+        }
+    }
+}
+
+/// The calls go round ten times, thirty rounds each, so that a slow while of the machine does not fall on one call alone.
 fn calls() {
     const COUNT: usize = 1000;
     let limits = Limits::new();
+    let mut cases = Vec::new();
     for (word, damaged) in [("accepted", 0), ("one in ten damaged", 10)] {
         let mut chance = Chance::new(1);
         for edition in Edition::ALL {
-            let records = records(&mut chance, &limits, edition, COUNT, damaged);
-            compare(&format!("check, edition {}, {word}", edition.number()), &records, &mut our_check, &mut their_check);
-            for to in [1, 3, 4] {
-                let (mut a, mut b) = ([0u8; 160], [0u8; 160]);
-                compare(
-                    &format!("recast {} to {to}, {word}", edition.number()),
-                    &records,
-                    &mut |record| our_recast(record, to, &mut a),
-                    &mut |record| their_recast(record, to, &mut b),
-                );
-            }
+            let records = Rc::new(records(&mut chance, &limits, edition, COUNT, damaged));
+            let from = edition.number();
+            cases.push(Case::new(format!("check, edition {from}, {word}"), &records, None));
+            cases.extend([1, 3, 4].map(|to| Case::new(format!("recast {from} to {to}, {word}"), &records, Some(to))));
         }
+    }
+    cases.iter().for_each(Case::agree);
+    for _ in 0..10 {
+        cases.iter_mut().for_each(|case| case.time(30));
+    }
+    for Case { name, ours, theirs, .. } in &cases {
+        println!("{name}: ours {ours:.0} ns, peer {theirs:.0} ns, ratio {:.1}", ours / theirs);
     }
 }
 
@@ -176,7 +219,10 @@ fn report(arguments: &[String]) -> io::Result<bool> {
         }
     }
     let word = if damaged == "0" { "accepted" } else { "one in ten damaged" };
-    println!("report of {count} records, {word}: ours {our_best:.0} ns, peer {their_best:.0} ns a record, ratio {:.1}", our_best / their_best);
+    println!(
+        "report of {count} records, {word}: ours {our_best:.0} ns, peer {their_best:.0} ns a record, ratio {:.1}",
+        our_best / their_best
+    );
     Ok(true)
 }
 

@@ -39,6 +39,7 @@ fn take(kept: &mut [u8], held: Held, b: u8) -> Held {
     Held::nothing(tell(page::columns(kept, 0, held.length), held.tally))
 }
 
+// Takes every byte of a piece.
 fn take_all(piece: &[u8], kept: &mut [u8], held: Held) -> Held {
     let mut now = held;
     let mut i = 0;
@@ -77,6 +78,7 @@ fn finish(kept: &mut [u8], held: Held) {
     printing::say_last(all.tally);
 }
 
+// Tells every record of standard input.
 fn main() {
     let mut buffer = io::large_buffer();
     let mut kept = [0u8; 160];

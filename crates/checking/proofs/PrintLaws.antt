@@ -5,7 +5,7 @@ use mathlib.Core.List.{List, [], _∷_, _++_}
 use Prim.Native.Nat.{ℕ, zero, suc, _+_, _-_, _≤_}
 use native.Mathlib.Numerals.{add-one}
 use native.Mathlib.Omega.{arith}
-use borrow.Author.Tests.{leb-true, le-leb}
+use borrow.Author.Tests.{le-leb}
 use lib.Dec.{leb}
 use lib.ListN.{length, getD, take, drop}
 use lib.Seq.{take-all, take-add}
@@ -14,6 +14,7 @@ use Rattle.text.specs.Texts.{isSign, digitOr, allows}
 use Rattle.text.specs.declared.Texts.{Texts}
 use Rattle.text.specs.declared.Texts.the-variants.{Nothing, Printable, Letters, CallSign, DigitOr, Within, Either, OneOf}
 use Rattle.text.proofs.Parts.{one-column}
+use Rattle.text.proofs.Ranges.{least, greatest, wider}
 use Rattle.text.proofs.Ways.{and-first, and-second}
 use Rattle.layout.specs.declared.Edition.{Edition}
 use Rattle.layout.specs.declared.Edition.the-variants.{One, Three, Four}
@@ -21,12 +22,6 @@ use Rattle.layout.specs.declared.Named.the-variants.{Known}
 use Rattle.layout.specs.Editions.{editionOf, lengthOf, lastOf}
 use Rattle.layout.specs.Page.{Element, page, none, elements, element, columns, widthOf, startOf, textOf, textsIn, textsOf, mayBeBlank, legal}
 use Rattle.layout.proofs.Columns.{start-next, filled}
-
--- a wider test passes where a narrower one does
-pub wider : (p q : ℕ → Bool) → ((b : ℕ) → p b ≡ true → q b ≡ true) → (t : List ℕ) → every p t ≡ true → every q t ≡ true
-unfolding every
-wider p q f [] e = refl
-wider p q f (b ∷ t) e = rw (f b (and-first _ _ e)) (wider p q f t (and-second (p b) _ e))
 
 pub every-append : (p : ℕ → Bool) (a b : List ℕ) → every p a ≡ true → every p b ≡ true → every p (a ++ b) ≡ true
 unfolding every
@@ -36,8 +31,8 @@ every-append p (x ∷ a) b e f = let h : p x ≡ true = and-first _ _ e in rw h 
 -- a range within another
 range : (lo hi b : ℕ) → 32 ≤ lo → hi ≤ 126 → between lo hi b ≡ true → printable b ≡ true
 range lo hi b p q e =
-    let l = leb-true lo b (and-first _ _ e) in
-    let h = leb-true b hi (and-second (leb lo b) _ e) in
+    let l = least lo hi b e in
+    let h = greatest lo hi b e in
     rw (le-leb 32 b (omega arith), le-leb b 126 (omega arith))
 
 either-printable : (x y : Bool) (b : ℕ) → (x ≡ true → printable b ≡ true) → (y ≡ true → printable b ≡ true) → (x || y) ≡ true → printable b ≡ true
@@ -95,8 +90,8 @@ allowed-prints Printable p t e = e
 allowed-prints Letters p t e = wider isLetter printable (λ b. range 65 90 b (omega arith) (omega arith)) t e
 allowed-prints CallSign p t e = signs-print t (and-second (leb 3 (run isSign t)) _ e)
 allowed-prints (DigitOr x) p t e =
-    let low = leb-true 32 x (and-first _ _ p) in
-    let high = leb-true x 126 (and-second (leb 32 x) _ p) in
+    let low = least 32 126 x p in
+    let high = greatest 32 126 x p in
     wider (digitOr x) printable (λ b. either-printable (isDigit b) (between x x b) b (range 48 57 b (omega arith) (omega arith)) (range x x b low high)) t e
 allowed-prints (Within a b) p t e = digits-print t (and-first _ _ e)
 allowed-prints (Either a b c d) p t e = digits-print t (and-first _ _ e)
@@ -129,10 +124,10 @@ unfolding valueFrom every
 one-digit lo hi b t f e =
     let g : (digits (b ∷ []) && between lo hi (number (b ∷ []))) ≡ true = rw f at e in
     let d : isDigit b ≡ true = and-first _ _ (and-first _ _ g) in
-    let low = leb-true 48 b (and-first _ _ d) in
+    let low = least 48 57 b d in
     let n = and-second (digits (b ∷ [])) _ g in
-    let least = leb-true lo (number (b ∷ [])) (and-first _ _ n) in
-    let most = leb-true (number (b ∷ [])) hi (and-second (leb lo (number (b ∷ []))) _ n) in
+    let from = least lo hi (number (b ∷ [])) n in
+    let to = greatest lo hi (number (b ∷ [])) n in
     (omega arith, omega arith)
 
 -- elements 1 and 65 of a record in which they are legal

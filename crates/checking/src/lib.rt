@@ -39,12 +39,14 @@ impl Answer {
     }
 }
 
+// Does some edition have records that long?
 fn is_known_length(n: usize) -> bool
     ensures { λ r. ⌜ r ≡ knownLength n ⌝ }
 {
     n == 131 || n == 159
 }
 
+// May the byte stand in column 1?
 fn is_known_format(b: u8) -> bool
     ensures { λ r. ⌜ r ≡ knownFormat b ⌝ }
 {

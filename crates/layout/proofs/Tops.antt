@@ -13,6 +13,7 @@ use Rattle.text.specs.declared.Texts.{Texts}
 use Rattle.text.specs.declared.Texts.the-variants.{Nothing, Printable, Letters, CallSign, DigitOr, Within, Either, OneOf}
 use Rattle.text.specs.First.{firstOf}
 use Rattle.text.proofs.First.{all-of-none}
+use Rattle.text.proofs.Ranges.{least, greatest, wider}
 use Rattle.text.proofs.Ways.{and-first, and-second}
 use Rattle.layout.specs.declared.Edition.{Edition}
 use Rattle.layout.specs.Editions.{lengthOf, lastOf}
@@ -30,17 +31,7 @@ at-most : (top : ℕ) (t : List ℕ) (n m : ℕ) → n ≤ m → every (between 
 unfolding every valueFrom most
 at-most top [] n m h e = h
 at-most top (b ∷ bs) n m h e =
-    at-most top bs (n * 10 + (b - 48)) (m * 10 + (top - 48)) (omega (arith, leb-true b top (and-second (leb 48 b) _ (and-first _ (every (between 48 top) bs) e)))) (and-second (between 48 top b) _ e)
-
--- what passes between 48 and `top` passes a weaker test
-weaker : (top : ℕ) (p : ℕ → Bool) → ((b : ℕ) → 48 ≤ b → b ≤ top → p b ≡ true) → (t : List ℕ) → every (between 48 top) t ≡ true → every p t ≡ true
-unfolding every
-weaker top p f [] e = refl
-weaker top p f (b ∷ bs) e =
-    rw (
-      f b (leb-true 48 b (and-first _ (leb b top) (and-first _ (every (between 48 top) bs) e))) (leb-true b top (and-second (leb 48 b) _ (and-first _ (every (between 48 top) bs) e))),
-      weaker top p f bs (and-second (between 48 top b) _ e),
-    )
+    at-most top bs (n * 10 + (b - 48)) (m * 10 + (top - 48)) (omega (arith, greatest 48 top b (and-first _ (every (between 48 top) bs) e))) (and-second (between 48 top b) _ e)
 
 -- digits up to `top` need no closer look in texts of w columns
 abbrev enough : Texts → ℕ → ℕ → Bool
@@ -54,8 +45,11 @@ enough (Either a b c d) w top = leb a 0 && leb (most top 0 w) b
 enough (OneOf a b c d) w top = false
 
 module _ (top : ℕ) (low : top ≤ 57) (t : List ℕ) (e : every (between 48 top) t ≡ true) where
+  digit : (b : ℕ) → between 48 top b ≡ true → between 48 57 b ≡ true
+  digit b h = rw (le-leb 48 b (least 48 top b h), le-leb b 57 (omega (arith, greatest 48 top b h)))
+
   are-digits : digits t ≡ true
-  are-digits = weaker top (between 48 57) (λ b h k. rw (le-leb 48 b h, le-leb b 57 (omega arith))) t e
+  are-digits = wider (between 48 top) (between 48 57) digit t e
 
   in-range : (a b : ℕ) → (leb a 0 && leb (most top 0 (length t)) b) ≡ true → between a b (number t) ≡ true
   in-range a b h =
@@ -70,7 +64,7 @@ module _ (top : ℕ) (low : top ≤ 57) (t : List ℕ) (e : every (between 48 to
   are-allowed Printable h = absurd (true≢false (sym h))
   are-allowed Letters h = absurd (true≢false (sym h))
   are-allowed CallSign h = absurd (true≢false (sym h))
-  are-allowed (DigitOr x) h = weaker top (digitOr x) (λ b f g. rw (le-leb 48 b f, le-leb b 57 (omega arith))) t e
+  are-allowed (DigitOr x) h = wider (between 48 top) (digitOr x) (λ b f. let d : between 48 57 b ≡ true = digit b f in rw d) t e
   are-allowed (Within a b) h = rw (are-digits, in-range a b h)
   are-allowed (Either a b c d) h = rw (are-digits, in-range a b h)
   are-allowed (OneOf a b c d) h = absurd (true≢false (sym h))
@@ -80,10 +74,10 @@ no-digit : (top : ℕ) → top ≤ 47 → (t : List ℕ) → 1 ≤ length t → 
 unfolding every
 no-digit top h [] w e = absurd (omega arith)
 no-digit top h (b ∷ bs) w e =
-    absurd (omega (arith, leb-true 48 b (and-first _ (leb b top) (and-first _ (every (between 48 top) bs) e)), leb-true b top (and-second (leb 48 b) _ (and-first _ (every (between 48 top) bs) e))))
+    absurd (omega (arith, least 48 top b (and-first _ (every (between 48 top) bs) e), greatest 48 top b (and-first _ (every (between 48 top) bs) e)))
 
 -- what antt computes of each element
-abbrev pub fits : Edition → List ℕ → ℕ → Bool
+abbrev fits : Edition → List ℕ → ℕ → Bool
 fits ed ts e = (leb (getD ts e 0) 47 && leb 1 (widthOf e)) || (leb (getD ts e 0) 57 && enough (textsOf ed e) (widthOf e) (getD ts e 0))
 
 legal-digits : (s : Texts) (w top : ℕ) → ((leb top 47 && leb 1 w) || (leb top 57 && enough s w top)) ≡ true →

@@ -69,6 +69,7 @@ impl Edition {
         }
     }
 
+    // How many columns its records have.
     pub fn length(self) -> usize
         ensures { λ r. ⌜ r ≡ lengthOf self ⌝ }
     {
@@ -79,6 +80,7 @@ impl Edition {
         }
     }
 
+    // The number of its last element.
     pub fn last(self) -> usize
         ensures { λ r. ⌜ r ≡ lastOf self ⌝ }
     {

@@ -113,10 +113,11 @@ module _ (from to : Edition) (e : ℕ) (t : List ℕ) where
   unfolding lostText
   version-kept h = by-rule (blank t) (keeps from to e t) (sym (kept-version h))
 
-  -- no element before column 70 is lost, and none of columns 81 to 109
+  -- the elements but three have one sense
   one : (e ≡ 40 → ⊥) → (e ≡ 41 → ⊥) → (e ≡ 43 → ⊥) → hasSenses e ≡ false
   one a b c = rw (ne-eqb e 40 a, ne-eqb e 41 b, ne-eqb e 43 c)
 
+  -- no element before column 70 is lost, and none of columns 81 to 109
   pub early-kept : e ≤ 39 → legalText from e t ≡ true → lostText from to e t ≡ false
   early-kept h legal = by (eqb e 6) refl
     where

@@ -96,6 +96,7 @@ fn platform_sense(edition: Edition, code: u32) -> Sense
     Sense::Alike
 }
 
+// The country.
 fn country_sense(edition: Edition) -> Sense
     ensures { λ r. ⌜ r ≡ countrySense edition ⌝ }
 {

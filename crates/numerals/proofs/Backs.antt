@@ -5,11 +5,11 @@ use mathlib.Core.List.{List, [], _∷_}
 use Prim.Native.Nat.{ℕ, zero, suc, _+_, _-_, _*_, _/_, _^_, _<_, _≤_}
 use native.Mathlib.Nat.{pow-suc, add-mul-div-right, add-mul-mod-self-right}
 use native.Mathlib.Omega.{arith}
-use borrow.Author.Tests.{leb-true}
-use lib.Dec.{leb, lit<}
+use lib.Dec.{lit<}
 use lib.ListN.{length, getD}
 use Rattle.text.specs.Bytes.{every, between, printable, isDigit, blank, digits, valueFrom, number, word}
 use Rattle.text.proofs.Every.{every-at}
+use Rattle.text.proofs.Ranges.{least, greatest}
 use Rattle.text.proofs.Ways.{and-first, and-second}
 use Rattle.numerals.specs.Spelling.{spelled, spell, inDigits, inBytes, inBlanks}
 use Rattle.numerals.proofs.Spellings.{value-spelled}
@@ -17,8 +17,8 @@ use Rattle.numerals.proofs.Spellings.{value-spelled}
 -- a byte from lo to hi is a digit of a base that has them
 digit-of : (lo hi nought base b : ℕ) → nought ≤ lo → hi < nought + base → between lo hi b ≡ true → (nought ≤ b) × (b < nought + base)
 digit-of lo hi nought base b p q e =
-    let low = leb-true lo b (and-first _ _ e) in
-    let high = leb-true b hi (and-second (leb lo b) _ e) in
+    let low = least lo hi b e in
+    let high = greatest lo hi b e in
     (omega arith, omega arith)
 
 -- blanks say nought

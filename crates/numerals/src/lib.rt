@@ -16,6 +16,7 @@ pub struct Numeral {
 }
 
 impl Numeral {
+    // A number in decimal digits.
     pub fn digits(n: u64) -> Numeral
         ensures { λ r. ⌜ r ≡ inDigits n ⌝ }
     {
@@ -26,6 +27,7 @@ impl Numeral {
         }
     }
 
+    // A number in bytes of any kind.
     pub fn bytes(n: u64) -> Numeral
         ensures { λ r. ⌜ r ≡ inBytes n ⌝ }
     {
@@ -36,6 +38,7 @@ impl Numeral {
         }
     }
 
+    // Blanks, which are the one digit of base 1.
     pub fn blanks() -> Numeral
         ensures { λ r. ⌜ r ≡ inBlanks ⌝ }
     {
@@ -47,6 +50,7 @@ impl Numeral {
     }
 }
 
+// A byte as a number.
 fn wide(b: u8) -> u64
     ensures { λ r. ⌜ r ≡ b ⌝ }
 {
@@ -83,7 +87,8 @@ pub fn put(buffer: &mut [u8], at: usize, width: usize, numeral: Numeral)
     }
 }
 
-// Blanks the columns from `at` on. Most elements have one, which needs no numeral.
+// Blanks the columns from `at` on. Most elements have one, for which a store is enough: a loop over so
+// few columns costs more than what it does.
 pub fn blank(buffer: &mut [u8], at: usize, width: usize)
     requires { ⌜ at + width ≤ length (now buffer) ⌝ }
     ensures { λ _. ⌜ now (buffer .exit) ≡ placed at (spell width inBlanks) (now (buffer .entry)) ⌝ }

@@ -43,10 +43,12 @@ impl Tally {
     }
 }
 
+// Writes a text to standard output.
 pub fn say(text: &[u8]) {
     io::write_all(STDOUT_FILENO, text);
 }
 
+// Writes a number there, in decimal digits.
 pub fn say_number(n: u64) {
     io::print_decimal(STDOUT_FILENO, n);
 }

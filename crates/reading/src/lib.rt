@@ -44,6 +44,7 @@ pub enum Found {
     Unread(Refusal),
 }
 
+// The same number, wider.
 fn wide(n: u32) -> u64
     ensures { λ r. ⌜ r ≡ n ⌝ }
 {
@@ -92,6 +93,7 @@ fn plain_of(e: usize, text: &[u8]) -> Reading
     Reading::Code(code_of(e, text::number_of(text)))
 }
 
+// The kind of amount that a sign says.
 fn kind_of(sign: u32) -> Kind
     ensures { λ r. ⌜ r ≡ kindOf sign ⌝ }
 {

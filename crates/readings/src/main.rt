@@ -35,6 +35,7 @@ fn say_signed(n: i64) {
     say_number(signs::magnitude(n));
 }
 
+// How an amount was come by.
 fn say_kind(kind: Kind) {
     match kind {
         Kind::Measured => say(b" measured"),
@@ -44,6 +45,7 @@ fn say_kind(kind: Kind) {
     }
 }
 
+// Latitude, east longitude and the digit of column 12.
 fn say_place(place: Place) {
     say_signed(place.latitude);
     say(b" ");
@@ -88,6 +90,7 @@ fn say_reading(record: u64, element: u64, reading: Reading) {
     }
 }
 
+// A line for each of the 101 elements.
 fn say_readings(record: u64, readings: [Reading; 101]) {
     let mut k = 0;
     while k < 101 {
@@ -97,6 +100,7 @@ fn say_readings(record: u64, readings: [Reading; 101]) {
     }
 }
 
+// Whether writing the readings gave the record back.
 fn say_written(is_same: bool, record: u64) {
     say_number(record);
     if is_same {
@@ -177,6 +181,7 @@ fn take(kept: &mut [u8], held: Held, b: u8) -> Held {
     Held::nothing(tell(page::columns(kept, 0, held.length), held.tally))
 }
 
+// Takes every byte of a piece.
 fn take_all(piece: &[u8], kept: &mut [u8], held: Held) -> Held {
     let mut now = held;
     let mut i = 0;
@@ -215,6 +220,7 @@ fn finish(kept: &mut [u8], held: Held) {
     printing::say_last(all.tally);
 }
 
+// Tells every record of standard input.
 fn main() {
     let mut buffer = io::large_buffer();
     let mut kept = [0u8; 160];

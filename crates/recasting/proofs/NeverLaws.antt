@@ -5,11 +5,12 @@ use mathlib.Core.Logic.{⊎-elim}
 use mathlib.Core.List.{List}
 use Prim.Native.Nat.{ℕ, _≤_}
 use native.Mathlib.Omega.{arith}
-use borrow.Author.Tests.{leb-true, ne-eqb, not-true}
-use lib.Dec.{eqb, leb}
+use borrow.Author.Tests.{ne-eqb, not-true}
+use lib.Dec.{eqb}
 use Rattle.text.specs.Bytes.{between}
 use Rattle.text.specs.Texts.{among}
 use Rattle.text.proofs.Among.{either-half, among-cases, at-number}
+use Rattle.text.proofs.Ranges.{least, greatest}
 use Rattle.text.proofs.Ways.{and-first, and-second}
 use Rattle.layout.specs.declared.Edition.{Edition}
 use Rattle.layout.specs.Page.{textOf, legal}
@@ -33,13 +34,15 @@ module _ (from to : Edition) (xs : List ℕ) (a : Acceptable from xs) where
 
   early : (e : ℕ) → between 1 39 e ≡ true → Never e
   unfolding legal
-  early e h = let low : 1 ≤ e = leb-true 1 e (and-first _ _ h) in early-kept from to e (textOf e xs) (leb-true e 39 (and-second (leb 1 e) _ h)) (a .lawful e low (omega (arith, last-above from, leb-true e 39 (and-second (leb 1 e) _ h))))
+  early e h =
+      let high = greatest 1 39 e h in
+      early-kept from to e (textOf e xs) high (a .lawful e (least 1 39 e h) (omega (arith, last-above from)))
 
   added : (e : ℕ) → between 44 63 e ≡ true → Never e
   unfolding legal
   added e h =
-      let low : 44 ≤ e = leb-true 44 e (and-first _ _ h) in
-      let high : e ≤ 63 = leb-true e 63 (and-second (leb 44 e) _ h) in
+      let low = least 44 63 e h in
+      let high = greatest 44 63 e h in
       added-kept from to e (textOf e xs) low high (a .lawful e (omega arith) (omega (arith, last-above from)))
 
   pub never : (e : ℕ) → steady e ≡ true → Never e
@@ -64,17 +67,15 @@ module _ (from to : Edition) (xs : List ℕ) (a : Acceptable from xs) where
 
   -- a steady element keeps its characters
   pub same : (e : ℕ) → steady e ≡ true → textOf e (result from to xs a) ≡ textOf e xs
-  same e h =
-      ⊎-elim
-      (λ k.
-      let inside : between 1 39 e ≡ true = and-first (between 1 39 e) (not (eqb e 6)) k in
-      let high : e ≤ 39 = leb-true e 39 (and-second (leb 1 e) _ inside) in
-      kept (leb-true 1 e (and-first _ _ inside)) (omega arith) (not-true _ (and-second (between 1 39 e) (not (eqb e 6)) k)))
-      (λ k.
-      let low : 44 ≤ e = leb-true 44 e (and-first _ _ k) in
-      let high : e ≤ 63 = leb-true e 63 (and-second (leb 44 e) _ k) in
-      kept (omega arith) high (ne-eqb e 6 (λ q. omega arith)))
-      (either-half (first e) (between 44 63 e) h)
+  same e h = ⊎-elim (λ k. early-same (and-first (between 1 39 e) (not (eqb e 6)) k) (not-true _ (and-second (between 1 39 e) (not (eqb e 6)) k))) added-same (either-half (first e) (between 44 63 e) h)
     where
       kept : 1 ≤ e → e ≤ 63 → eqb e 6 ≡ false → textOf e (result from to xs a) ≡ textOf e xs
       kept low high six = as-it-was from to xs a e (six, ne-eqb e 65 (λ q. omega arith)) low (omega (arith, last-above from)) (omega (arith, last-above to)) (never e h)
+
+      early-same : between 1 39 e ≡ true → eqb e 6 ≡ false → textOf e (result from to xs a) ≡ textOf e xs
+      early-same k = kept (least 1 39 e k) (omega (arith, greatest 1 39 e k))
+
+      added-same : between 44 63 e ≡ true → textOf e (result from to xs a) ≡ textOf e xs
+      added-same k =
+          let low = least 44 63 e k in
+          kept (omega arith) (greatest 44 63 e k) (ne-eqb e 6 (λ q. omega arith))

@@ -1,5 +1,5 @@
 -- What recasting a record to another edition answers: rules 1 to 8, then 10 and 9; the elements lost; and what the lent buffer holds afterwards. Assumes nothing.
-use Prim.Native.Nat.{ℕ, _-_}
+use Prim.Native.Nat.{ℕ, _+_, _-_}
 use mathlib.Core.Bool.{cond, _&&_}
 use mathlib.Core.List.{List, [], _∷_, _++_}
 use lib.Dec.{eqb, leb}
@@ -9,11 +9,10 @@ use Rattle.numerals.specs.Spelling.{spell, inBlanks}
 use Rattle.losses.specs.Losses.{noLosses, lossesOf}
 use Rattle.losses.specs.declared.Losses.{Losses}
 use Rattle.layout.specs.declared.Edition.{Edition}
-use Rattle.layout.specs.declared.Edition.the-variants.{One, Three, Four}
 use Rattle.layout.specs.declared.Named.{Named}
 use Rattle.layout.specs.declared.Named.the-variants.{Known, Unknown}
 use Rattle.layout.specs.declared.Refusal.the-variants.{Unheld, Room, NoDigit}
-use Rattle.layout.specs.Editions.{asked, lengthOf}
+use Rattle.layout.specs.Editions.{asked, editionNumber, lengthOf}
 use Rattle.layout.specs.Page.{widthOf, textOf}
 use Rattle.layout.specs.Records.{rowFrom, recordFrom}
 use Rattle.layout.specs.Refusals.{numberOf, placeOf}
@@ -35,9 +34,7 @@ hemisphere from to xs =
 
 -- column 111: the character that names the target
 abbrev pub digitOf : Edition → ℕ
-digitOf One = 49
-digitOf Three = 51
-digitOf Four = 52
+digitOf edition = 48 + editionNumber edition
 
 -- the record with blanks in the columns that it does not have
 abbrev pub blanks : ℕ → List ℕ

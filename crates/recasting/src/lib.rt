@@ -125,15 +125,11 @@ fn hemisphere_of(from: Edition, to: Edition, line: &[u8]) -> u8
     )
 }
 
-// Column 111 in the target.
+// Column 111 in the target: the digit of its number.
 fn digit_of(edition: Edition) -> u8
     ensures { λ r. ⌜ r ≡ digitOf edition ⌝ }
 {
-    match edition {
-        Edition::One => b'1',
-        Edition::Three => b'3',
-        Edition::Four => b'4',
-    }
+    (48 + edition.number()) as u8
 }
 
 // Makes the recast record in a row of our own, and names the elements lost.

@@ -6,13 +6,14 @@ use mathlib.Core.List.{List}
 use Prim.Native.Nat.{ℕ, zero, suc, _+_, _-_, _%_, _^_, _<_, _≤_}
 use native.Mathlib.Nat.{mod-eq-of-lt, mod-eq-sub-mod}
 use native.Mathlib.Omega.{arith}
-use borrow.Author.Tests.{eqb-true, leb-true, le-leb, lt-leb}
+use borrow.Author.Tests.{eqb-true, le-leb, lt-leb}
 use lib.Dec.{eqb, leb, lit<}
 use lib.IntN.{natAbs}
 use lib.ListN.{length}
 use Rattle.text.specs.Bytes.{every, between, either, printable, blank, digits, number, word}
 use Rattle.text.specs.Texts.{among}
 use Rattle.text.proofs.Among.{either-half}
+use Rattle.text.proofs.Ranges.{least, greatest}
 use Rattle.text.proofs.Ways.{and-first, and-second}
 use Rattle.numerals.specs.Spelling.{spelled, spell}
 use Rattle.numerals.proofs.Backs.{digits-back, blanks-back, bytes-back, spelled-beyond}
@@ -29,13 +30,6 @@ use Rattle.spelling.specs.Spelled.{signDigit, amountNumeral, placeNumera
 pub data Holds (p : ℕ → Bool) (t : List ℕ) : Type 0 where
   empty : blank t ≡ true → Holds p t
   holds : blank t ≡ false → digits t ≡ true → p (number t) ≡ true → Holds p t
-
--- a number from lo to hi
-pub least : (lo hi n : ℕ) → between lo hi n ≡ true → lo ≤ n
-least lo hi n e = leb-true lo n (and-first _ _ e)
-
-pub greatest : (lo hi n : ℕ) → between lo hi n ≡ true → n ≤ hi
-greatest lo hi n e = leb-true n hi (and-second (leb lo n) _ e)
 
 -- texts of which both or neither are there
 there-alike : (x y : Bool) → Bool·beq (not x) (not y) ≡ true → y ≡ x

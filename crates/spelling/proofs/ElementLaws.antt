@@ -10,6 +10,7 @@ use lib.Dec.{eqb, lit≤}
 use Rattle.text.specs.Bytes.{between, either, blank, digits, number}
 use Rattle.text.specs.declared.Texts.the-variants.{Within, Either}
 use Rattle.text.specs.Texts.{among, allows}
+use Rattle.text.proofs.Ranges.{greatest}
 use Rattle.text.proofs.Among.{at-number, among-cases}
 use Rattle.text.proofs.Ways.{and-first, and-second}
 use Rattle.numerals.specs.Spelling.{spell}
@@ -25,7 +26,7 @@ use Rattle.spelling.specs.Spelled.{numeralFor}
 use Rattle.layout.proofs.Elements.{in-each}
 use Rattle.layout.proofs.RecordLaws.{text-long}
 use Rattle.checking.proofs.PrintLaws.{legal-prints}
-use Rattle.spelling.proofs.BackLaws.{Holds, empty, holds, greatest, plain-back, sign-back, value-back, departure-back, digit-back, latitude-back, longitude-back}
+use Rattle.spelling.proofs.BackLaws.{Holds, empty, holds, plain-back, sign-back, value-back, departure-back, digit-back, latitude-back, longitude-back}
 
 -- a text that is legal in digits
 pub in-digits : (p : ℕ → Bool) (ed : Edition) (xs : List ℕ) (e : ℕ) → allows (textsOf ed e) (textOf e xs) ≡ (digits (textOf e xs) && p (number (textOf e xs))) →

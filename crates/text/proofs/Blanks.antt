@@ -6,15 +6,13 @@ use Prim.Native.Nat.{ℕ, zero, suc, _-_, _<_, _≤_}
 use native.Mathlib.Nat.{le-of-suc-le-suc, not-suc-le-zero}
 use native.Mathlib.Numerals.{add-one}
 use native.Mathlib.Omega.{arith}
-use borrow.Author.Tests.{leb-true}
-use lib.Dec.{leb}
 use lib.ListN.{length, getD, take, drop}
 use Rattle.text.specs.Bytes.{between, blank, toLastNonBlank}
-use Rattle.text.proofs.Ways.{and-first, and-second}
+use Rattle.text.proofs.Ranges.{least, greatest}
 use Rattle.text.proofs.Every.{on, every-at}
 
 pub only-blank : (b : ℕ) → between 32 32 b ≡ true → b ≡ 32
-only-blank b e = omega (arith, leb-true 32 b (and-first _ _ e), leb-true b 32 (and-second (leb 32 b) _ e))
+only-blank b e = omega (arith, least 32 32 b e, greatest 32 32 b e)
 
 pub blank-byte : (b : ℕ) → b ≡ 32 → between 32 32 b ≡ true
 blank-byte b e = rw e

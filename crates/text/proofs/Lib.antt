@@ -1,5 +1,6 @@
 -- The laws that the functions of this crate and of those above it cite.
 pub mod Ways
+pub mod Ranges
 pub mod Every
 pub mod Blanks
 pub mod Numbers

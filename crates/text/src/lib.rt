@@ -163,6 +163,7 @@ pub fn is_among(n: u32, a: u32, b: u32, c: u32, d: u32) -> bool
     n == d
 }
 
+// A byte as a number.
 fn wide(b: u8) -> u32
     ensures { λ r. ⌜ r ≡ b ⌝ }
 {

@@ -12,6 +12,7 @@ ghost use lib.ListN.{length};
 ghost use Rattle.text.specs.First.{firstOf};
 ghost use Rattle.ties.specs.Ties.{there, placeTie, octantFits, octantTie, negative, signTie, lastDigit, digitTie, windTie, tie};
 
+// Is the element filled?
 fn is_there(text: &[u8]) -> bool
     ensures { λ r. ⌜ r ≡ there (now (text .entry)) ⌝ }
 {

@@ -11,6 +11,7 @@ use lib.Dec.{eqb, lit≤}
 use lib.IntN.{pos}
 use Rattle.text.specs.Bytes.{every, between, blank, number, valueFrom}
 use Rattle.text.specs.Texts.{among}
+use Rattle.text.proofs.Ranges.{greatest}
 use Rattle.text.proofs.Among.{either-half}
 use Rattle.text.proofs.Ways.{and-first, and-second}
 use Rattle.numerals.specs.Spelling.{spelled, spell, inDigits, inBlanks}
@@ -26,7 +27,6 @@ use Rattle.reading.specs.declared.Reading.{Reading}
 use Rattle.reading.specs.declared.Reading.the-variants.{Missing, Amount}
 use Rattle.reading.specs.Readings.{temperature, placeOf, itemOf, readingOf}
 use Rattle.spelling.specs.Spelled.{amountNumeral, numeralFor, recordOf}
-use Rattle.spelling.proofs.BackLaws.{greatest}
 use Rattle.writing.specs.declared.Outcome.{Outcome}
 use Rattle.writing.specs.declared.Outcome.the-variants.{Unwritten}
 use Rattle.writing.specs.Written.{writes, writtenIn, outcomeNumber, outcomePlace}

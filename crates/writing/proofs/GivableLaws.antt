@@ -12,6 +12,7 @@ use Rattle.text.specs.Bytes.{every, between, blank, number, valueFrom}
 use Rattle.text.specs.declared.Texts.the-variants.{Within}
 use Rattle.text.specs.Texts.{among, allows}
 use Rattle.numerals.specs.Spelling.{spell}
+use Rattle.text.proofs.Ranges.{greatest}
 use Rattle.text.proofs.Among.{at-number, among-cases}
 use Rattle.layout.specs.declared.Edition.{Edition}
 use Rattle.layout.specs.Editions.{lastOf}
@@ -24,7 +25,7 @@ use Rattle.reading.proofs.ReadingLaws.{lead-is, lead-of-lead}
 use Rattle.spelling.specs.Spelled.{numeralFor, given, recordOf}
 use Rattle.spelling.proofs.SameLaws.{same-self}
 use Rattle.spelling.proofs.RecordLaws.{record-long, record-text}
-use Rattle.spelling.proofs.BackLaws.{Holds, empty, holds, greatest, plain-back, departure-back}
+use Rattle.spelling.proofs.BackLaws.{Holds, empty, holds, plain-back, departure-back}
 use Rattle.spelling.proofs.ElementLaws.{in-digits, sign-texts, value-texts, signs, values, within, hemispheres, of-hemispheres, departures}
 use Rattle.spelling.proofs.GivenLaws.{pair-kept, place-kept}
 use Rattle.writing.specs.Written.{writes}

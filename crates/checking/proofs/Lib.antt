@@ -8,3 +8,4 @@ pub mod Demand2CallSign
 pub mod SignLaws
 pub mod PrintLaws
 pub mod LegalLaws
+pub mod GlanceLaws

@@ -7,6 +7,5 @@ pub mod RefusalLaws
 pub mod Demand2Columns
 pub mod Parts
 pub mod RecordLaws
-pub mod Tops
 pub mod Singles
 pub mod Alike

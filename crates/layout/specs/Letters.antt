@@ -5,14 +5,12 @@ use Prim.Native.Nat.{ℕ, _-_, _/_, _%_, _^_, _≤_}
 use mathlib.Core.Bool.{true, cond, _||_}
 use mathlib.Core.List.{List, [], _∷_, map}
 use lib.Dec.{eqb}
-use lib.ListN.{length, getD}
-use Rattle.text.specs.Bytes.{every, between, blank}
+use Rattle.text.specs.Bytes.{blank}
 use Rattle.text.specs.Texts.{allows}
 use Rattle.text.specs.declared.Texts.{Texts}
 use Rattle.text.specs.declared.Texts.the-variants.{Nothing, Printable, Letters, CallSign, DigitOr, Within, Either, OneOf}
 use Rattle.layout.specs.declared.Edition.{Edition}
-use Rattle.layout.specs.Editions.{lastOf}
-use Rattle.layout.specs.Page.{elements, widthOf, textsIn, textsOf}
+use Rattle.layout.specs.Page.{elements, textsIn}
 
 -- a letter, and the texts that it stands for
 pub record Entry : Type 0 where
@@ -81,10 +79,6 @@ pub record WidthRow (ws : List ℕ) : Type 0 where
 
 pub record LetterRow (ed : Edition) (ls : List ℕ) : Type 0 where
   pub says : map lettered ls ≡ map (textsIn ed) elements
-
--- a row of digits: a text as wide as its element, of digits up to the one that the row has for it, is legal in every edition that has the element
-pub record TopRow (ts : List ℕ) : Type 0 where
-  pub says : (ed : Edition) (e : ℕ) → 1 ≤ e → e ≤ lastOf ed → (t : List ℕ) → length t ≡ widthOf e → every (between 48 (getD ts e 0)) t ≡ true → allows (textsOf ed e) t ≡ true
 
 -- a word of bits, for a letter: where bit k is one, the byte 32 + k alone is blank or a text that the letter stands for
 pub record SingleWord (l w : ℕ) : Type 0 where

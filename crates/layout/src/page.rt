@@ -1,8 +1,8 @@
 // The layout page, for the check of a record's elements.
 //
 // `page` of specs/Page.antt is the page. Here it stands as rows of characters, a character an element
-// and the first for none, so that a loop reads a byte for each element and no more: its width, the
-// digits that need no closer look, and a letter for its legal texts in each edition.
+// and the first for none, so that a loop reads a byte for each element and no more: its width, and a
+// letter for its legal texts in each edition.
 use crate::Edition;
 use text::Texts;
 ghost use mathlib.Core.Path.{_≡_};
@@ -15,21 +15,13 @@ ghost use Rattle.text.specs.Texts.{allows};
 ghost use Rattle.text.specs.First.{firstOf};
 ghost use Rattle.layout.specs.Editions.{lengthOf, lastOf};
 ghost use Rattle.layout.specs.Page.{widthOf, startOf, textOf, mayBeBlank, legal};
-ghost use Rattle.layout.specs.Letters.{lettered, WidthRow, TopRow, LetterRow, SingleWord};
+ghost use Rattle.layout.specs.Letters.{lettered, WidthRow, LetterRow, SingleWord};
 
 // The widths, a digit for each.
 pub fn widths() -> [u8; 102]
     ensures { λ r. ⌜ WidthRow r ⌝ }
 {
     *b"014222134112121213134211111113112222212111721111311313112221111111111111111111111111111332233311111111"
-}
-
-// A digit for each element of more than one column: where all of them hold digits up to that one,
-// every edition that has the element allows the text. '/' where that can be said of no digit.
-fn tops() -> [u8; 102]
-    ensures { λ r. ⌜ TopRow r ⌝ }
-{
-    *b"//9//2/81//4/3/9/9/909///////9//99399/9////////////9/9//399////////////////////////////3399039////////"
 }
 
 // The letters of an edition.
@@ -200,45 +192,19 @@ fn is_legal(e: usize, letter: u8, text: &[u8]) -> bool
     is_missing(e, text) || is_lettered(letter, text)
 }
 
-// Is the text surely blank or one of those that the letter stands for, where digits up to `top` are?
-// Most texts are, and need no closer look.
-fn is_plain(letter: u8, top: u8, text: &[u8]) -> bool
-    requires { ⌜ (every (between 48 top) (now text) ≡ true → allows (lettered letter) (now text) ≡ true) ⌝ }
-    ensures { λ r. ⌜ (r ≡ true → (blank (now (text .entry)) || allows (lettered letter) (now (text .entry))) ≡ true) ⌝ }
-{
-    if text.len() == 1 {
-        return stands(letter, text[0]);
-    }
-    text::mixed(text, 48, top) == 0
-}
-
-// The same as `is_legal`, where digits up to `top` are texts that the letter stands for.
-fn passes(e: usize, letter: u8, top: u8, text: &[u8]) -> bool
-    requires { ⌜ (length (now text) ≤ 7) × (every (between 48 top) (now text) ≡ true → allows (lettered letter) (now text) ≡ true) ⌝ }
-    ensures { λ r. ⌜ r ≡ ((mayBeBlank e && blank (now (text .entry))) || allows (lettered letter) (now (text .entry))) ⌝ }
-{
-    if is_plain(letter, top, text) {
-        if may_be_blank(e) {
-            return true;
-        }
-    }
-    is_legal(e, letter, text)
-}
-
 // The lowest element that is neither blank nor legal, or 0.
 pub fn first_illegal(edition: Edition, line: &[u8]) -> usize
     requires { ⌜ length (now line) ≡ lengthOf edition ⌝ }
     ensures { λ r. ⌜ r ≡ firstOf (lastOf edition) (legal edition (now (line .entry))) ⌝ }
 {
     let widths = widths();
-    let tops = tops();
     let letters = letters_in(edition);
     let last = edition.last();
     let mut at = 0;
     let mut e = 1;
     while e <= last {
         let end = at + digit(widths[e]);
-        if !passes(e, letters[e], tops[e], &line[at..end]) {
+        if !is_legal(e, letters[e], &line[at..end]) {
             return e;
         }
         at = end;

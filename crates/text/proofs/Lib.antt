@@ -8,3 +8,5 @@ pub mod First
 pub mod Bits
 pub mod Parts
 pub mod Among
+pub mod Below
+pub mod Order

@@ -1,6 +1,6 @@
 -- What each way through a test of two halves says of the whole: x is what the code's first test answered, y its second. Assumes nothing.
 use mathlib.Core.Path.{_≡_, refl, sym}
-use mathlib.Core.Bool.{Bool, true, false, _&&_, _||_, Bool·beq, true≢false, false≢true}
+use mathlib.Core.Bool.{Bool, true, false, not, _&&_, _||_, Bool·beq, true≢false, false≢true}
 
 module _ (x p : Bool) (e : x ≡ p) where
   pub or-holds : (q : Bool) → x ≡ true → x ≡ (p || q)
@@ -36,3 +36,13 @@ pub same-true : (a b : Bool) → a ≡ true → b ≡ Bool·beq a b
 same-true true true e = refl
 same-true true false e = refl
 same-true false b e = absurd (false≢true e)
+
+-- by what a test answers
+pub decide : {P : Type 0} (x : Bool) → (x ≡ true → P) → (x ≡ false → P) → P
+decide true f g = f refl
+decide false f g = g refl
+
+-- a computed test that one thing follows from another
+pub imply : (a b : Bool) → (not a || b) ≡ true → a ≡ true → b ≡ true
+imply true b e h = e
+imply false b e h = absurd (true≢false (sym h))

@@ -53,51 +53,6 @@ pub fn all_between(text: &[u8], lo: u8, hi: u8) -> bool
     true
 }
 
-// 0 where the byte is one from lo to hi, otherwise 1.
-fn outside(b: u8, lo: u8, hi: u8) -> u8
-    ensures { λ r. ⌜ (r ≡ 0 → between lo hi b ≡ true) ⌝ }
-    ensures { λ r. ⌜ r ≤ 1 ⌝ }
-{
-    if b < lo {
-        return 1;
-    }
-    if hi < b {
-        return 1;
-    }
-    0
-}
-
-// 0 only where every byte is printable. It goes to the end whatever it meets, so that the compiler
-// can take many bytes at a time.
-pub fn unprintable(text: &[u8]) -> u8
-    ensures { λ r. ⌜ (r ≡ 0 → every printable (now (text .entry)) ≡ true) ⌝ }
-{
-    let mut bad = 0u8;
-    let mut i = 0;
-    while i < text.len() {
-        bad = bad | outside(text[i], 32, 126);
-        i += 1;
-    }
-    bad
-}
-
-// 0 only where every byte is one from lo to hi, or every byte is blank. It too goes to the end: a
-// branch at each byte costs more than the bytes where a record may as well have the one as the other.
-pub fn mixed(text: &[u8], lo: u8, hi: u8) -> u8
-    ensures { λ r. ⌜ (r ≡ 0 → (blank (now (text .entry)) || every (between lo hi) (now (text .entry))) ≡ true) ⌝ }
-{
-    let mut strange = 0u8;
-    let mut filled = 0u8;
-    let mut i = 0;
-    while i < text.len() {
-        let b = text[i];
-        strange = strange | outside(b, lo, hi);
-        filled = filled | outside(b, 32, 32);
-        i += 1;
-    }
-    strange & filled
-}
-
 // Is it blank over all of the columns, that is, missing?
 pub fn is_blank(text: &[u8]) -> bool
     ensures { λ r. ⌜ r ≡ blank (now (text .entry)) ⌝ }

@@ -1,78 +1,34 @@
 -- `checking::check` meets its contract. Assumes nothing.
-use Prim.Native.Nat.{ℕ}
-use Rattle.checking.proofs.CheckLaws.{by-edition, long-enough, unknown-format, unknown-length, unprintable}
-use Rattle.checking.specs.Check.{checkedIn}
+use mathlib.Core.Path.{sym}
 use borrow.Author.Needs.{needs}
-use borrow.Author.Tests.{not-false, not-true}
-use mathlib.Core.List.{List}
-use mathlib.Core.Path.{_∙_, _≡_, ap, sym}
-use native.Mathlib.Omega.{arith}
-use Rattle.layout.specs.declared.Named.{Named}
 use Rattle.checking.proofs.check.Statement.{statement}
 use Rattle.checking.proofs.check.Tie as tie
 
--- the edition that an arm was taken at
-in-edition : {m n : Named} (xs : List ℕ) → m ≡ n → checkedIn n xs ≡ checkedIn m xs
-in-edition xs e = sym (ap (λ (q : Named). checkedIn q xs) e)
-
-is-known-length-requires : tie.Need-is-known-length-requires
-is-known-length-requires c κs = search needs
-
-returns : tie.Need-returns
-returns c = unknown-length _ _ (c .before .is-known-length .ensures) (not-true _ (c .if1 .taken))
-
-first-unprintable-requires : tie.Need-first-unprintable-requires
-first-unprintable-requires c κs = search needs
-
-returns-2 : tie.Need-returns-2
-returns-2 c = unprintable _ _ (c .before .before .before .is-known-length .ensures) (not-false _ (c .before .before .if1 .left)) _ (c .before .first-unprintable .ensures) (c .if2 .taken)
-
-shared-slice-read-is-known-format : tie.Need-shared-slice-read-is-known-format
-shared-slice-read-is-known-format c = omega (arith, long-enough (c .before .before .before .before .before .before .args .line .now) _ (c .before .before .before .before .is-known-length .ensures) (not-false _ (c .before .before .before .if1 .left)))
-
-is-known-format-requires : tie.Need-is-known-format-requires
-is-known-format-requires c κs = search needs
-
-returns-3 : tie.Need-returns-3
-returns-3 c = unknown-format _ _ (c .before .before .before .before .before .before .is-known-length .ensures) (not-false _ (c .before .before .before .before .before .if1 .left)) _ (c .before .before .before .before .first-unprintable .ensures) (c .before .before .before .if2 .left) _ (c .before .is-known-format .ensures) (not-true _ (c .if3 .taken))
-
-shared-slice-read-of-digit : tie.Need-shared-slice-read-of-digit
-shared-slice-read-of-digit c = omega (arith, long-enough (c .before .before .before .before .before .before .before .before .before .args .line .now) _ (c .before .before .before .before .before .before .before .is-known-length .ensures) (not-false _ (c .before .before .before .before .before .before .if1 .left)))
-
-of-digit-requires : tie.Need-of-digit-requires
-of-digit-requires c κs = search needs
+at-a-glance-requires : tie.Need-at-a-glance-requires
+at-a-glance-requires c κs = search needs
 
 enum-known-edition : tie.Need-enum-known-edition
 enum-known-edition c = search needs
 
-check-in-requires : tie.Need-check-in-requires
-check-in-requires c κs = search needs
-
 enum-told : tie.Need-enum-told
 enum-told c = search needs
 
-returns-4 : tie.Need-returns-4
-returns-4 c = c .check-in .ensures ∙ in-edition _ (c .before .before .edition .given .1) ∙ by-edition _ _ (c .before .before .before .before .before .before .before .before .before .before .before .before .is-known-length .ensures) (not-false _ (c .before .before .before .before .before .before .before .before .before .before .before .if1 .left)) _ (c .before .before .before .before .before .before .before .before .before .before .first-unprintable .ensures) (c .before .before .before .before .before .before .before .before .before .if2 .left) _ (c .before .before .before .before .before .before .before .is-known-format .ensures) (not-false _ (c .before .before .before .before .before .before .if3 .left)) _ (c .before .before .before .before .of-digit .ensures)
+check-in-order-requires : tie.Need-check-in-order-requires
+check-in-order-requires c κs = search needs
 
-returns-5 : tie.Need-returns-5
-unfolding checkedIn
-returns-5 c = in-edition _ (c .enum-told .given .1) ∙ by-edition _ _ (c .before .before .before .before .before .before .before .before .before .before .is-known-length .ensures) (not-false _ (c .before .before .before .before .before .before .before .before .before .if1 .left)) _ (c .before .before .before .before .before .before .before .before .first-unprintable .ensures) (c .before .before .before .before .before .before .before .if2 .left) _ (c .before .before .before .before .before .is-known-format .ensures) (not-false _ (c .before .before .before .before .if3 .left)) _ (c .before .before .of-digit .ensures)
+returns : tie.Need-returns
+returns c = sym (c .before .before .before .at-a-glance .ensures _ (c .before .edition .given .1))
+
+returns-2 : tie.Need-returns-2
+returns-2 c = search needs
 
 pub check-spec : {M : Type 1} → statement M
 check-spec =
     tie.close
     (tie.spec
-    is-known-length-requires
-    returns
-    first-unprintable-requires
-    returns-2
-    shared-slice-read-is-known-format
-    is-known-format-requires
-    returns-3
-    shared-slice-read-of-digit
-    of-digit-requires
+    at-a-glance-requires
     enum-known-edition
-    check-in-requires
     enum-told
-    returns-4
-    returns-5)
+    check-in-order-requires
+    returns
+    returns-2)

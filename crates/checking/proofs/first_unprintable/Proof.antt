@@ -1,7 +1,6 @@
 -- `checking::first_unprintable` meets its contract. Assumes nothing.
 use Prim.Native.Nat.{_+_, _-_, _≤_}
-use Rattle.checking.proofs.CheckLaws.{unprintable}
-use Rattle.checking.proofs.Placed.{all-print, prints, too-high, too-low}
+use Rattle.checking.proofs.Placed.{prints, too-high, too-low}
 use Rattle.checking.specs.Check.{printableAt}
 use Rattle.text.proofs.First.{begin, end, off, on}
 use Rattle.text.specs.First.{firstFrom, firstOf}
@@ -18,12 +17,6 @@ Inv-loop line c₀ c = (1 ≤ c) × (firstOf (length line) (printableAt line) �
 abbrev μ-loop : tie.MeasureT-loop
 μ-loop line c₀ c = length line + 1 - c
 
-unprintable-requires : tie.Need-unprintable-requires Inv-loop μ-loop
-unprintable-requires c κs = search needs
-
-returns : tie.Need-returns Inv-loop μ-loop
-returns c = all-print _ (c .before .unprintable .ensures (c .if1 .taken))
-
 loop-holds : tie.Need-loop-holds Inv-loop μ-loop
 loop-holds c = (search needs, begin (printableAt _) _)
 
@@ -33,11 +26,11 @@ sub-b c = search needs
 shared-slice-read-b : tie.Need-shared-slice-read-b Inv-loop μ-loop
 shared-slice-read-b c = search needs
 
-returns-2 : tie.Need-returns-2 Inv-loop μ-loop
-returns-2 c = sym (c .before .before .before .loop .inv .1 ∙ off (printableAt _) _ _ (c .before .before .loop-test .taken) (too-low _ _ (c .before .before .before .loop .inv .0) (c .before .before .loop-test .taken) (c .if2 .taken)))
+returns : tie.Need-returns Inv-loop μ-loop
+returns c = sym (c .before .before .before .loop .inv .1 ∙ off (printableAt _) _ _ (c .before .before .loop-test .taken) (too-low _ _ (c .before .before .before .loop .inv .0) (c .before .before .loop-test .taken) (c .if1 .taken)))
 
-returns-3 : tie.Need-returns-3 Inv-loop μ-loop
-returns-3 c = sym (c .before .before .before .before .loop .inv .1 ∙ off (printableAt _) _ _ (c .before .before .before .loop-test .taken) (too-high _ _ (c .before .before .before .before .loop .inv .0) (c .before .before .before .loop-test .taken) (c .before .if2 .left) (c .if3 .taken)))
+returns-2 : tie.Need-returns-2 Inv-loop μ-loop
+returns-2 c = sym (c .before .before .before .before .loop .inv .1 ∙ off (printableAt _) _ _ (c .before .before .before .loop-test .taken) (too-high _ _ (c .before .before .before .before .loop .inv .0) (c .before .before .before .loop-test .taken) (c .before .if1 .left) (c .if2 .taken)))
 
 add-c : tie.Need-add-c Inv-loop μ-loop
 add-c c = search needs
@@ -49,11 +42,11 @@ loop-again : tie.Need-loop-again Inv-loop μ-loop
 loop-again c = (
   omega arith,
   c .before .before .before .before .loop .inv .1 ∙
-      on (printableAt _) _ _ (c .before .before .before .loop-test .taken) (prints _ _ (c .before .before .before .before .loop .inv .0) (c .before .before .before .loop-test .taken) (c .before .if2 .left) (c .if3 .left)),
+      on (printableAt _) _ _ (c .before .before .before .loop-test .taken) (prints _ _ (c .before .before .before .before .loop .inv .0) (c .before .before .before .loop-test .taken) (c .before .if1 .left) (c .if2 .left)),
 )
 
-returns-4 : tie.Need-returns-4 Inv-loop μ-loop
-returns-4 c = sym (c .before .loop .inv .1 ∙ end (printableAt _) _ _ (c .loop-test .left))
+returns-3 : tie.Need-returns-3 Inv-loop μ-loop
+returns-3 c = sym (c .before .loop .inv .1 ∙ end (printableAt _) _ _ (c .loop-test .left))
 
 pub first-unprintable-spec : {M : Type 1} → statement M
 first-unprintable-spec =
@@ -61,14 +54,12 @@ first-unprintable-spec =
     (tie.spec
     Inv-loop
     μ-loop
-    unprintable-requires
-    returns
     loop-holds
     sub-b
     shared-slice-read-b
+    returns
     returns-2
-    returns-3
     add-c
     loop-less
     loop-again
-    returns-4)
+    returns-3)

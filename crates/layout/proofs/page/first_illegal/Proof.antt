@@ -1,7 +1,6 @@
 -- `layout::page::first_illegal` meets its contract: the loop stands at element e, and what is left to look at says the same as the whole. Assumes nothing.
 use Prim.Native.Nat.{_+_, _-_, _<_, _≤_}
 use Rattle.layout.proofs.Elements.{byLetters, last-below, next, part, same-place, small, tested, within}
-use Rattle.layout.proofs.Tops.{low-digits}
 use Rattle.text.proofs.First.{begin, end, off, on}
 use Rattle.text.specs.First.{firstFrom, firstOf}
 use borrow.Author.Needs.{needs}
@@ -15,47 +14,44 @@ use Rattle.layout.proofs.page.first_illegal.Statement.{statement}
 use Rattle.layout.proofs.page.first_illegal.Tie as tie
 
 abbrev Inv-loop : tie.InvT-loop
-Inv-loop line widths tops letters last at₀ e₀ at e = (1 ≤ e) × ((at ≡ startOf e) × (firstOf last (byLetters letters line) ≡ firstFrom (byLetters letters line) e (last + 1 - e)))
+Inv-loop line widths letters last at₀ e₀ at e = (1 ≤ e) × ((at ≡ startOf e) × (firstOf last (byLetters letters line) ≡ firstFrom (byLetters letters line) e (last + 1 - e)))
 
 abbrev μ-loop : tie.MeasureT-loop
-μ-loop line widths tops letters last at₀ e₀ at e = last + 1 - e
+μ-loop line widths letters last at₀ e₀ at e = last + 1 - e
 
 below : (c : tie.In-loop Inv-loop μ-loop) → c .before .loop .e < 102
-below c = omega (arith, c .before .before .last .ensures, last-below (c .before .before .before .before .before .before .before .args .edition))
+below c = omega (arith, c .before .before .last .ensures, last-below (c .before .before .before .before .before .before .args .edition))
 
 -- the element's columns end within the record
-ends : (c : tie.After-digit Inv-loop μ-loop) → c .before .before .loop .at + c .digit .result ≤ length (c .before .before .before .before .before .before .before .before .args .line .now)
+ends : (c : tie.After-digit Inv-loop μ-loop) → c .before .before .loop .at + c .digit .result ≤ length (c .before .before .before .before .before .before .before .args .line .now)
 ends c =
-    within _ (c .before .before .before .before .before .before .widths .ensures) _ _ _ (c .before .before .loop .inv .1 .0) (c .digit .ensures)
-    (c .before .before .before .before .before .before .before .before .args .edition) (c .before .before .before .before .before .before .before .before .args .line .now) _ (c .before .before .before .last .ensures)
-    (c .before .before .before .before .before .before .before .before .pre) (c .before .loop-test .taken)
+    within _ (c .before .before .before .before .before .widths .ensures) _ _ _ (c .before .before .loop .inv .1 .0) (c .digit .ensures)
+    (c .before .before .before .before .before .before .before .args .edition) (c .before .before .before .before .before .before .before .args .line .now) _ (c .before .before .before .last .ensures)
+    (c .before .before .before .before .before .before .before .pre) (c .before .loop-test .taken)
 
 -- what the test answers
-answers : (c : tie.After-passes Inv-loop μ-loop) →
-    c .passes .result ≡
-    byLetters (c .before .before .before .before .before .before .letters-in .result) (c .before .before .before .before .before .before .before .before .before .before .args .line .now)
+answers : (c : tie.After-is-legal Inv-loop μ-loop) →
+    c .is-legal .result ≡
+    byLetters (c .before .before .before .before .before .before .letters-in .result) (c .before .before .before .before .before .before .before .before .before .args .line .now)
     (c .before .before .before .before .loop .e)
 answers c =
-    tested _ (c .before .before .before .before .before .before .before .before .widths .ensures) _ _ _ (c .before .before .before .before .loop .inv .1 .0)
-    (c .before .before .digit .ensures) _ _ _ (c .passes .ensures)
+    tested _ (c .before .before .before .before .before .before .before .widths .ensures) _ _ _ (c .before .before .before .before .loop .inv .1 .0)
+    (c .before .before .digit .ensures) _ _ _ (c .is-legal .ensures)
 
 -- what the page finds is what the letters find
 place : (c : tie.Then1 Inv-loop μ-loop) →
-    firstOf (lastOf (c .before .before .before .before .before .before .before .before .before .before .before .args .edition))
-    (legal (c .before .before .before .before .before .before .before .before .before .before .before .args .edition)
-    (c .before .before .before .before .before .before .before .before .before .before .before .args .line .now)) ≡
+    firstOf (lastOf (c .before .before .before .before .before .before .before .before .before .before .args .edition))
+    (legal (c .before .before .before .before .before .before .before .before .before .before .args .edition)
+    (c .before .before .before .before .before .before .before .before .before .before .args .line .now)) ≡
     firstOf (c .before .before .before .before .before .before .last .result)
     (byLetters (c .before .before .before .before .before .before .before .letters-in .result)
-    (c .before .before .before .before .before .before .before .before .before .before .before .args .line .now))
+    (c .before .before .before .before .before .before .before .before .before .before .args .line .now))
 place c =
     sym (same-place _ _ _ (c .before .before .before .before .before .before .before .letters-in .ensures) _
     (c .before .before .before .before .before .before .last .ensures))
 
 widths-requires : tie.Need-widths-requires Inv-loop μ-loop
 widths-requires c κs = search needs
-
-tops-requires : tie.Need-tops-requires Inv-loop μ-loop
-tops-requires c κs = search needs
 
 letters-in-requires : tie.Need-letters-in-requires Inv-loop μ-loop
 letters-in-requires c κs = search needs
@@ -76,27 +72,20 @@ digit-requires c κs = search needs
 add-end : tie.Need-add-end Inv-loop μ-loop
 add-end c = omega (arith, ends c)
 
-array-read-passes : tie.Need-array-read-passes Inv-loop μ-loop
-array-read-passes c = below (c .before)
+array-read-is-legal : tie.Need-array-read-is-legal Inv-loop μ-loop
+array-read-is-legal c = below (c .before)
 
-array-read-passes-2 : tie.Need-array-read-passes-2 Inv-loop μ-loop
-array-read-passes-2 c = below (c .before)
+sub-is-legal : tie.Need-sub-is-legal Inv-loop μ-loop
+sub-is-legal c = search needs
 
-sub-passes : tie.Need-sub-passes Inv-loop μ-loop
-sub-passes c = search needs
+part-is-legal-start : tie.Need-part-is-legal-start Inv-loop μ-loop
+part-is-legal-start c = search needs
 
-part-passes-start : tie.Need-part-passes-start Inv-loop μ-loop
-part-passes-start c = search needs
+part-is-legal-end : tie.Need-part-is-legal-end Inv-loop μ-loop
+part-is-legal-end c = ends c
 
-part-passes-end : tie.Need-part-passes-end Inv-loop μ-loop
-part-passes-end c = ends c
-
-passes-requires : tie.Need-passes-requires Inv-loop μ-loop
-passes-requires c κs = (
-  small _ (c .before .before .before .before .before .before .before .widths .ensures) _ _ _ (c .before .before .before .loop .inv .1 .0) (c .before .digit .ensures) _,
-  low-digits _ _ _ _ (c .before .before .before .before .before .before .before .before .before .pre) (c .before .before .before .before .before .before .tops .ensures) (c .before .before .before .before .before .letters-in .ensures) _ _ (c .before .before .before .loop .inv .0) (c .before .before .before .before .last .ensures)
-      (c .before .before .loop-test .taken) _ (part _ (c .before .before .before .before .before .before .before .widths .ensures) _ _ _ (c .before .before .before .loop .inv .1 .0) (c .before .digit .ensures) (c .before .before .before .before .before .before .before .before .before .args .line .now)),
-)
+is-legal-requires : tie.Need-is-legal-requires Inv-loop μ-loop
+is-legal-requires c κs = small _ (c .before .before .before .before .before .before .widths .ensures) _ _ _ (c .before .before .before .loop .inv .1 .0) (c .before .digit .ensures) _
 
 returns : tie.Need-returns Inv-loop μ-loop
 returns c = sym (place c ∙ c .before .before .before .before .before .loop .inv .1 .1 ∙ off (byLetters _ _) _ _ (c .before .before .before .before .loop-test .taken) (sym (answers (c .before)) ∙ not-true _ (c .if1 .taken)))
@@ -111,7 +100,7 @@ loop-again : tie.Need-loop-again Inv-loop μ-loop
 loop-again c = (
   omega arith,
   (
-    next _ (c .before .before .before .before .before .before .before .before .before .widths .ensures) _ _ _ (c .before .before .before .before .before .loop .inv .1 .0) (c .before .before .before .digit .ensures),
+    next _ (c .before .before .before .before .before .before .before .before .widths .ensures) _ _ _ (c .before .before .before .before .before .loop .inv .1 .0) (c .before .before .before .digit .ensures),
     c .before .before .before .before .before .loop .inv .1 .1 ∙
         on (byLetters _ _) _ _ (c .before .before .before .before .loop-test .taken) (sym (answers (c .before)) ∙ not-false _ (c .if1 .left)),
   ),
@@ -127,19 +116,17 @@ first-illegal-spec =
     Inv-loop
     μ-loop
     widths-requires
-    tops-requires
     letters-in-requires
     last-requires
     loop-holds
     array-read-digit
     digit-requires
     add-end
-    array-read-passes
-    array-read-passes-2
-    sub-passes
-    part-passes-start
-    part-passes-end
-    passes-requires
+    array-read-is-legal
+    sub-is-legal
+    part-is-legal-start
+    part-is-legal-end
+    is-legal-requires
     returns
     add-e
     loop-less

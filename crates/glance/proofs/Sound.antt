@@ -1,0 +1,20 @@
+-- What the glance's tests say together: every element is legal and every tie holds. Assumes nothing.
+use mathlib.Core.Path.{_≡_}
+use mathlib.Core.List.{List, _++_}
+use Prim.Native.Nat.{ℕ}
+use lib.ListN.{length, getD}
+use Rattle.layout.specs.declared.Edition.{Edition}
+use Rattle.layout.specs.declared.Named.the-variants.{Known}
+use Rattle.layout.specs.Editions.{editionOf, lengthOf}
+use Rattle.columns.specs.Tables.{Shared, Own}
+use Rattle.columns.proofs.Ranges.{cover}
+use Rattle.glance.specs.Sure.{dates, places, winds, falls, Alike, Rest, Sure}
+use Rattle.glance.proofs.Lawful.{join, lawful}
+use Rattle.glance.proofs.Tied.{tied}
+
+pub surely-sound : (ed : Edition) (xs : List ℕ) → length xs ≡ lengthOf ed → editionOf (getD xs 110 0) ≡ Known ed → Shared xs → Alike xs → Own ed xs → Rest ed xs → Sure ed xs
+surely-sound ed xs full named s a o r =
+    let cols = cover ed xs s o in
+    let nums = join _ dates _ (a .0) (join _ places _ (a .1 .0) (join _ winds falls (a .1 .1 .0) (a .1 .1 .1 .0))) in
+    let all = lawful ed xs full named cols nums (a .1 .1 .1 .1 .0) r in
+    record { lawful = all; tied = tied ed xs full cols all (a .1 .1 .1 .1 .1) r }

@@ -1,0 +1,41 @@
+-- `glance::four` meets its contract. Assumes nothing.
+use native.Mathlib.Omega.{arith}
+use Rattle.glance.proofs.Words.{word-more}
+use borrow.Author.Needs.{needs}
+use Rattle.glance.proofs.four.Statement.{statement}
+use Rattle.glance.proofs.four.Tie as tie
+
+three-requires : tie.Need-three-requires
+three-requires c κs = search needs
+
+mul-result : tie.Need-mul-result
+mul-result c = search needs
+
+add-wide : tie.Need-add-wide
+add-wide c = search needs
+
+shared-slice-read-wide : tie.Need-shared-slice-read-wide
+shared-slice-read-wide c = search needs
+
+wide-requires : tie.Need-wide-requires
+wide-requires c κs = search needs
+
+add-result : tie.Need-add-result
+add-result c = search needs
+
+returns : tie.Need-returns
+returns c =
+    let start = c .before .before .before .before .args in
+    word-more (start .line .now) (start .at) 3 (c .before .before .three .ensures .0) (c .wide .ensures .0) (omega arith)
+
+pub four-spec : {M : Type 1} → statement M
+four-spec =
+    tie.close
+    (tie.spec
+    three-requires
+    mul-result
+    add-wide
+    shared-slice-read-wide
+    wide-requires
+    add-result
+    returns)

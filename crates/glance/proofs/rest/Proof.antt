@@ -1,0 +1,69 @@
+-- `glance::rest` meets its contract. Assumes nothing.
+use native.Mathlib.Omega.{arith}
+use mathlib.Core.Path.{_∙_, ap, ap₂, sym, subst}
+use Rattle.layout.specs.declared.Edition.{Edition}
+use Rattle.layout.specs.Editions.{lengthOf}
+use Rattle.layout.proofs.RecordLaws.{shortest}
+use Rattle.faults.proofs.Joins.{passed}
+use Rattle.glance.specs.Tests.{octantNear}
+use Rattle.glance.specs.Sure.{Rest}
+use borrow.Author.Needs.{needs}
+use Rattle.glance.proofs.rest.Statement.{statement}
+use Rattle.glance.proofs.rest.Tie as tie
+
+enum-told : tie.Need-enum-told
+enum-told c = search needs
+
+shared-slice-read-wide : tie.Need-shared-slice-read-wide
+shared-slice-read-wide c = let start = c .before .before .before .before in omega (arith, start .pre, shortest (start .args .edition))
+
+wide-requires : tie.Need-wide-requires
+wide-requires c κs = search needs
+
+four-requires : tie.Need-four-requires
+four-requires c κs = let start = c .before .before .before .before .before in omega (arith, start .pre, shortest (start .args .edition))
+
+octant-off-requires : tie.Need-octant-off-requires
+octant-off-requires c κs = search needs
+
+enum-told-2 : tie.Need-enum-told-2
+enum-told-2 c = search needs
+
+later-off-requires : tie.Need-later-off-requires
+later-off-requires c κs = c .before .before .before .pre ∙ ap lengthOf (c .enum-told2 .given .1)
+
+enum-told-3 : tie.Need-enum-told-3
+enum-told-3 c = search needs
+
+later-off-requires-2 : tie.Need-later-off-requires-2
+later-off-requires-2 c κs = c .before .before .before .pre ∙ ap lengthOf (c .enum-told3 .given .1)
+
+returns : tie.Need-returns
+returns c = λ z.
+    let low = c .before .before in
+    let start = low .before .before .before .before .before in
+    subst (λ (ed : Edition). Rest ed (start .args .line .now)) (sym (low .before .before .enum-told .given .1))
+    (ap₂ octantNear (sym (low .wide .ensures .0)) (sym (c .before .four .ensures)) ∙ passed _ (c .octant-off .ensures) z)
+
+returns-2 : tie.Need-returns-2
+returns-2 c = λ z. subst (λ (ed : Edition). Rest ed (c .before .before .before .before .args .line .now)) (sym (c .before .enum-told2 .given .1)) (c .later-off .ensures z)
+
+returns-3 : tie.Need-returns-3
+returns-3 c = λ z. subst (λ (ed : Edition). Rest ed (c .before .before .before .before .args .line .now)) (sym (c .before .enum-told3 .given .1)) (c .later-off2 .ensures z)
+
+pub rest-spec : {M : Type 1} → statement M
+rest-spec =
+    tie.close
+    (tie.spec
+    enum-told
+    shared-slice-read-wide
+    wide-requires
+    four-requires
+    octant-off-requires
+    enum-told-2
+    later-off-requires
+    enum-told-3
+    later-off-requires-2
+    returns
+    returns-2
+    returns-3)

@@ -1,0 +1,57 @@
+-- `glance::temperature` meets its contract. Assumes nothing.
+use mathlib.Core.Path.{_∙_, ap, sym}
+use Rattle.text.proofs.Bits.{or-left, or-right}
+use lib.Bits.{bitAnd}
+use Rattle.faults.proofs.Joins.{passed, either-of}
+use Rattle.glance.specs.Tests.{plusZero, lastFits}
+use borrow.Author.Needs.{needs}
+use Rattle.glance.proofs.temperature.Statement.{statement}
+use Rattle.glance.proofs.temperature.Tie as tie
+
+backwards-requires : tie.Need-backwards-requires
+backwards-requires c κs = search needs
+
+minus-zero-requires : tie.Need-minus-zero-requires
+minus-zero-requires c κs = search needs
+
+add-past : tie.Need-add-past
+add-past c = search needs
+
+shared-slice-read-past : tie.Need-shared-slice-read-past
+shared-slice-read-past c = search needs
+
+past-requires : tie.Need-past-requires
+past-requires c κs = search needs
+
+add-other : tie.Need-add-other
+add-other c = search needs
+
+shared-slice-read-other : tie.Need-shared-slice-read-other
+shared-slice-read-other c = search needs
+
+other-requires : tie.Need-other-requires
+other-requires c κs = search needs
+
+returns : tie.Need-returns
+unfolding lastFits
+returns c = λ z.
+    let low = c .before .before .before .before in
+    let last = bitAnd (c .before .before .past .result) (c .other .result) in
+    record {
+      signed = ap plusZero (sym (low .before .backwards .ensures)) ∙ passed _ (low .minus-zero .ensures) (or-left (low .minus-zero .result) last z);
+      last = passed _ (either-of _ _ (c .before .before .past .ensures) (c .other .ensures)) (or-right (low .minus-zero .result) last z);
+    }
+
+pub temperature-spec : {M : Type 1} → statement M
+temperature-spec =
+    tie.close
+    (tie.spec
+    backwards-requires
+    minus-zero-requires
+    add-past
+    shared-slice-read-past
+    past-requires
+    add-other
+    shared-slice-read-other
+    other-requires
+    returns)

@@ -1,0 +1,71 @@
+-- What the glance says of a record where it says yes: every element is legal and every tie holds. The rest is the code's own way to it. Assumes nothing.
+use Prim.Native.Nat.{ℕ, _+_, _≤_}
+use mathlib.Core.Path.{_≡_}
+use mathlib.Core.List.{List, [], _∷_, _++_}
+use mathlib.Core.Bool.{true, false}
+use lib.Dec.{eqb}
+use lib.ListN.{getD, take, drop}
+use Rattle.text.specs.Bytes.{word}
+use Rattle.layout.specs.declared.Edition.{Edition}
+use Rattle.layout.specs.declared.Edition.the-variants.{One, Three, Four}
+use Rattle.layout.specs.Editions.{lastOf}
+use Rattle.layout.specs.Page.{legal}
+use Rattle.ties.specs.Ties.{tie}
+use Rattle.glance.specs.Tests.{neither, lastHighest, plusZero, topDigit, halfDigit, lastFits, needs, octantNear}
+use Rattle.glance.specs.Limits.{Limited}
+
+-- what makes a text of the edition's length a record of it
+pub record Sure (ed : Edition) (xs : List ℕ) : Type 0 where
+  pub lawful : (e : ℕ) → 1 ≤ e → e ≤ lastOf ed → legal ed xs e ≡ true
+  pub tied : (k : ℕ) → tie ed xs k ≡ true
+
+-- some property of each of some elements
+unfoldable pub All : (ℕ → Type 0) → List ℕ → Type 0
+All P [] = Unit
+All P (e ∷ es) = P e × All P es
+
+abbrev pub Limits : List ℕ → List ℕ → Type 0
+Limits es xs = All (Limited xs) es
+
+-- the elements whose number has limits of its own, as the code takes them together
+abbrev pub dates : List ℕ
+dates = 3 ∷ 4 ∷ 5 ∷ []
+
+abbrev pub places : List ℕ
+places = 7 ∷ 8 ∷ []
+
+abbrev pub winds : List ℕ
+winds = 11 ∷ 13 ∷ 20 ∷ []
+
+abbrev pub falls : List ℕ
+falls = 34 ∷ 48 ∷ 56 ∷ []
+
+abbrev pub courses : List ℕ
+courses = 87 ∷ 88 ∷ 91 ∷ 92 ∷ []
+
+-- column 1 is there, and ix is none of the digits between its codes that their run holds
+abbrev pub Codes : List ℕ → Type 0
+Codes xs = (eqb (getD xs 0 0) 32 ≡ false) × (neither 50 51 (getD xs 82 0) ≡ true)
+
+-- a sign and its temperature, from column s on: no minus zero, and a last digit that column 1 takes
+pub record Temperature (xs : List ℕ) (s top half : ℕ) : Type 0 where
+  pub signed : plusZero (lastHighest xs s) ≡ true
+  pub last : lastFits top half (getD xs (s + 3) 0) ≡ true
+
+abbrev pub Degrees : List ℕ → ℕ → Type 0
+Degrees xs s = Temperature xs s (topDigit (getD xs 0 0)) (halfDigit (getD xs 0 0))
+
+abbrev pub Temperatures : List ℕ → Type 0
+Temperatures xs = (Degrees xs 29 × Degrees xs 33) × (Degrees xs 49 × Degrees xs 88)
+
+-- what all editions ask alike, and what each asks besides
+abbrev pub Alike : List ℕ → Type 0
+Alike xs = Limits dates xs × (Limits places xs × (Limits winds xs × (Limits falls xs × (Codes xs × Temperatures xs))))
+
+abbrev pub Later : List ℕ → Type 0
+Later xs = Limits courses xs × ((neither 50 54 (getD xs 11 0) ≡ true) × (needs (getD xs 148 0) (getD xs 26 0) ≡ true))
+
+abbrev pub Rest : Edition → List ℕ → Type 0
+Rest One xs = octantNear (getD xs 11 0) (word (take 4 (drop 15 xs))) ≡ true
+Rest Three xs = Later xs
+Rest Four xs = Later xs

@@ -1,0 +1,266 @@
+// A glance at a record: is it surely accepted?
+//
+// Most records are, and one look over them with hardly a branch is enough. First the columns, then the
+// numbers that have limits and the ties. A yes is proved; a no says nothing, and whoever asked has to
+// look for what is wrong. Each function but the last answers 0 where nothing is.
+use faults::above;
+use faults::equal;
+use faults::other;
+use faults::past;
+use faults::reaches;
+use faults::same;
+use layout::Edition;
+ghost use mathlib.Core.Path.{_≡_};
+ghost use mathlib.Core.Bool.{true};
+ghost use Prim.Native.Nat.{_+_, _≤_};
+ghost use lib.ListN.{length, getD, take, drop};
+ghost use Rattle.text.specs.Bytes.{word};
+ghost use Rattle.faults.specs.Faults.{no};
+ghost use Rattle.layout.specs.declared.Named.the-variants.{Known};
+ghost use Rattle.layout.specs.Editions.{editionOf, lengthOf};
+ghost use Rattle.glance.specs.Tests.{inLimit, neither, lastHighest, plusZero, topDigit, halfDigit, lastFits, needs, octantNear};
+ghost use Rattle.glance.specs.Sure.{dates, places, winds, falls, courses, Limits, Codes, Temperature, Temperatures, Alike, Rest, Sure};
+
+// A byte as a number.
+fn wide(b: u8) -> u32
+    ensures { λ r. ⌜ (r ≡ b) × (r ≤ 255) ⌝ }
+{
+    b as u32
+}
+
+// Two bytes as one number, the first highest. Digits stand in the order of the numbers that they say,
+// and blanks below all of them, so that limits are set on the bytes themselves.
+fn two(line: &[u8], at: usize) -> u32
+    requires { ⌜ at + 2 ≤ length (now line) ⌝ }
+    ensures { λ r. ⌜ (r ≡ word (take 2 (drop at (now (line .entry))))) × (r ≤ 65535) ⌝ }
+{
+    wide(line[at]) * 256 + wide(line[at + 1])
+}
+
+// The same of three bytes.
+fn three(line: &[u8], at: usize) -> u32
+    requires { ⌜ at + 3 ≤ length (now line) ⌝ }
+    ensures { λ r. ⌜ (r ≡ word (take 3 (drop at (now (line .entry))))) × (r ≤ 16777215) ⌝ }
+{
+    two(line, at) * 256 + wide(line[at + 2])
+}
+
+// The same of four.
+fn four(line: &[u8], at: usize) -> u32
+    requires { ⌜ at + 4 ≤ length (now line) ⌝ }
+    ensures { λ r. ⌜ r ≡ word (take 4 (drop at (now (line .entry)))) ⌝ }
+{
+    three(line, at) * 256 + wide(line[at + 3])
+}
+
+// Is the number past the top, or in the gap from `gap` up to `end`?
+fn beyond(n: u32, top: u32, gap: u32, end: u32) -> u8
+    ensures { λ r. ⌜ r ≡ no (inLimit top gap end n) ⌝ }
+{
+    above(n, top) | (reaches(n, gap) & above(end, n))
+}
+
+// Is the number in two columns?
+fn two_off(line: &[u8], at: usize, top: u32, gap: u32, end: u32) -> u8
+    requires { ⌜ at + 2 ≤ length (now line) ⌝ }
+    ensures { λ z. ⌜ (z ≡ 0 → inLimit top gap end (word (take 2 (drop at (now (line .entry))))) ≡ true) ⌝ }
+{
+    beyond(two(line, at), top, gap, end)
+}
+
+// Is the number in three?
+fn three_off(line: &[u8], at: usize, top: u32, gap: u32, end: u32) -> u8
+    requires { ⌜ at + 3 ≤ length (now line) ⌝ }
+    ensures { λ z. ⌜ (z ≡ 0 → inLimit top gap end (word (take 3 (drop at (now (line .entry))))) ≡ true) ⌝ }
+{
+    beyond(three(line, at), top, gap, end)
+}
+
+// Is the number in four?
+fn four_off(line: &[u8], at: usize, top: u32, gap: u32, end: u32) -> u8
+    requires { ⌜ at + 4 ≤ length (now line) ⌝ }
+    ensures { λ z. ⌜ (z ≡ 0 → inLimit top gap end (word (take 4 (drop at (now (line .entry))))) ≡ true) ⌝ }
+{
+    beyond(four(line, at), top, gap, end)
+}
+
+// Month 01 to 12, day 01 to 31, hour 00 to 23. A digit d stands here as 0x3d.
+fn dates_off(line: &[u8]) -> u8
+    requires { ⌜ 131 ≤ length (now line) ⌝ }
+    ensures { λ z. ⌜ (z ≡ 0 → Limits dates (now (line .entry))) ⌝ }
+{
+    two_off(line, 5, 0x3132, 0x3030, 0x3031)
+        | (two_off(line, 7, 0x3331, 0x3030, 0x3031) | two_off(line, 9, 0x3233, 0x3030, 0x3030))
+}
+
+// Latitude to 900, longitude to 1800.
+fn places_off(line: &[u8]) -> u8
+    requires { ⌜ 131 ≤ length (now line) ⌝ }
+    ensures { λ z. ⌜ (z ≡ 0 → Limits places (now (line .entry))) ⌝ }
+{
+    three_off(line, 12, 0x393030, 0x303030, 0x303030)
+        | four_off(line, 15, 0x31383030, 0x30303030, 0x30303030)
+}
+
+// VV not from 51 to 55, dd to 36 or 99, PPPP not from 1000 to 7999. No digits pass the top that is
+// none.
+fn winds_off(line: &[u8]) -> u8
+    requires { ⌜ 131 ≤ length (now line) ⌝ }
+    ensures { λ z. ⌜ (z ≡ 0 → Limits winds (now (line .entry))) ⌝ }
+{
+    two_off(line, 21, 0xffff_ffff, 0x3531, 0x3536)
+        | (two_off(line, 24, 0xffff_ffff, 0x3337, 0x3939)
+            | four_off(line, 37, 0xffff_ffff, 0x31303030, 0x38303030))
+}
+
+// The swell's dd as that of the wind, RRR not 000, the second swell's dd.
+fn falls_off(line: &[u8]) -> u8
+    requires { ⌜ 131 ≤ length (now line) ⌝ }
+    ensures { λ z. ⌜ (z ≡ 0 → Limits falls (now (line .entry))) ⌝ }
+{
+    two_off(line, 59, 0xffff_ffff, 0x3337, 0x3939)
+        | (three_off(line, 84, 0xffff_ffff, 0x303030, 0x303031)
+            | two_off(line, 98, 0xffff_ffff, 0x3337, 0x3939))
+}
+
+// From edition 3 on: HDG and COG to 360, hh to 199 and not 100, RWD to 360.
+fn courses_off(line: &[u8]) -> u8
+    requires { ⌜ length (now line) ≡ 159 ⌝ }
+    ensures { λ z. ⌜ (z ≡ 0 → Limits courses (now (line .entry))) ⌝ }
+{
+    (three_off(line, 132, 0x333630, 0x303030, 0x303030)
+        | three_off(line, 135, 0x333630, 0x303030, 0x303030))
+        | (three_off(line, 142, 0x313939, 0x313030, 0x313031)
+            | three_off(line, 145, 0x333630, 0x303030, 0x303030))
+}
+
+// Is the byte one of two?
+fn one_of(b: u8, x: u8, y: u8) -> u8
+    ensures { λ r. ⌜ r ≡ no (neither x y b) ⌝ }
+{
+    equal(b, x) | equal(b, y)
+}
+
+// Column 1 is there, and ix is neither 2 nor 3, which its run of digits holds.
+fn codes_off(line: &[u8]) -> u8
+    requires { ⌜ 131 ≤ length (now line) ⌝ }
+    ensures { λ z. ⌜ (z ≡ 0 → Codes (now (line .entry))) ⌝ }
+{
+    equal(line[0], 32) | one_of(line[82], 50, 51)
+}
+
+// Four bytes as one number, the last highest, as the processor takes them at once. Nothing is asked of
+// their order.
+fn backwards(line: &[u8], at: usize) -> u32
+    requires { ⌜ at + 4 ≤ length (now line) ⌝ }
+    ensures { λ r. ⌜ r ≡ lastHighest (now (line .entry)) at ⌝ }
+{
+    wide(line[at])
+        + wide(line[at + 1]) * 256
+        + wide(line[at + 2]) * 65536
+        + wide(line[at + 3]) * 16777216
+}
+
+// Is it a minus before zeros, 1000 or 6000?
+fn minus_zero(n: u32) -> u8
+    ensures { λ r. ⌜ r ≡ no (plusZero n) ⌝ }
+{
+    same(n, 0x30303031) | same(n, 0x30303036)
+}
+
+// The digit up to which column 1 takes every last digit.
+fn top_digit(format: u8) -> u8
+    ensures { λ r. ⌜ r ≡ topDigit format ⌝ }
+{
+    if format == b'3' { b'9' } else { b'0' }
+}
+
+// The one last digit that it takes besides.
+fn half_digit(format: u8) -> u8
+    ensures { λ r. ⌜ r ≡ halfDigit format ⌝ }
+{
+    if format == b'5' { b'0' } else { b'5' }
+}
+
+// A sign and its temperature, from column s on: is it minus zero, or has it a last digit that column 1
+// does not take?
+fn temperature(line: &[u8], s: usize, top: u8, half: u8) -> u8
+    requires { ⌜ s + 4 ≤ length (now line) ⌝ }
+    ensures { λ z. ⌜ (z ≡ 0 → Temperature (now (line .entry)) s top half) ⌝ }
+{
+    minus_zero(backwards(line, s)) | (past(line[s + 3], top) & other(line[s + 3], half))
+}
+
+// Air, dew point, sea, wet bulb.
+fn temperatures(line: &[u8]) -> u8
+    requires { ⌜ 131 ≤ length (now line) ⌝ }
+    ensures { λ z. ⌜ (z ≡ 0 → Temperatures (now (line .entry))) ⌝ }
+{
+    let top = top_digit(line[0]);
+    let half = half_digit(line[0]);
+    (temperature(line, 29, top, half) | temperature(line, 33, top, half))
+        | (temperature(line, 49, top, half) | temperature(line, 88, top, half))
+}
+
+// Does the octant not go with the longitude? 1, 2, 6 and 7 have to reach 0900, and others must not pass
+// it.
+fn octant_off(octant: u32, longitude: u32) -> u8
+    ensures { λ r. ⌜ r ≡ no (octantNear octant longitude) ⌝ }
+{
+    if text::is_among(octant, 49, 50, 54, 55) {
+        above(0x30393030, longitude)
+    } else {
+        above(longitude, 0x30393030)
+    }
+}
+
+// Is the first there without the second?
+fn alone(b: u8, w: u8) -> u8
+    ensures { λ r. ⌜ r ≡ no (needs b w) ⌝ }
+{
+    other(b, 32) & equal(w, 32)
+}
+
+// From edition 3 on besides: the quadrant is neither 2 nor 6, and RWS has its iw.
+fn later_off(line: &[u8]) -> u8
+    requires { ⌜ length (now line) ≡ 159 ⌝ }
+    ensures { λ z. ⌜ (z ≡ 0 → Rest Edition.Three (now (line .entry))) ⌝ }
+{
+    courses_off(line) | (one_of(line[11], 50, 54) | alone(line[148], line[26]))
+}
+
+// What an edition asks besides of its numbers and its ties.
+fn rest(edition: Edition, line: &[u8]) -> u8
+    requires { ⌜ length (now line) ≡ lengthOf edition ⌝ }
+    ensures { λ z. ⌜ (z ≡ 0 → Rest edition (now (line .entry))) ⌝ }
+{
+    match edition {
+        Edition::One => octant_off(wide(line[11]), four(line, 15)),
+        Edition::Three => later_off(line),
+        Edition::Four => later_off(line),
+    }
+}
+
+// What all editions ask alike of their numbers, their codes and their temperatures.
+fn alike(line: &[u8]) -> u8
+    requires { ⌜ 131 ≤ length (now line) ⌝ }
+    ensures { λ z. ⌜ (z ≡ 0 → Alike (now (line .entry))) ⌝ }
+{
+    dates_off(line)
+        | (places_off(line)
+            | (winds_off(line) | (falls_off(line) | (codes_off(line) | temperatures(line)))))
+}
+
+// Is a record of this length and this column 111 surely accepted? No says nothing.
+pub fn surely(edition: Edition, line: &[u8]) -> bool
+    requires { ⌜ (length (now line) ≡ lengthOf edition) × (editionOf (getD (now line) 110 0) ≡ Known edition) ⌝ }
+    ensures { λ r. ⌜ (r ≡ true → Sure edition (now (line .entry))) ⌝ }
+{
+    if columns::shared(line) | alike(line) != 0 {
+        return false;
+    }
+    if columns::own(edition, line) != 0 {
+        return false;
+    }
+    rest(edition, line) == 0
+}

@@ -1,8 +1,10 @@
-//! Links the archive that bench/run has made of the proved library, and links it again whenever it is another.
+//! Links the archives that bench/run has made of the proved library, and links them again whenever they are others.
 
 fn main() {
-    let archive = std::env::var("BENCH_ARCHIVE").expect("bench/run says where the archive is");
-    println!("cargo:rerun-if-env-changed=BENCH_ARCHIVE");
-    println!("cargo:rerun-if-changed={archive}");
-    println!("cargo:rustc-link-arg={archive}");
+    let archives = std::env::var("BENCH_ARCHIVES").expect("bench/run says where the archives are");
+    println!("cargo:rerun-if-env-changed=BENCH_ARCHIVES");
+    for archive in archives.split(':') {
+        println!("cargo:rerun-if-changed={archive}");
+        println!("cargo:rustc-link-arg={archive}");
+    }
 }

@@ -1,6 +1,7 @@
 //! Times ours and the peer's on the same records, in turn, and prints nanoseconds a record and their ratio.
 //!
 //!     bench calls                                     check and recast, as calls
+//!     bench memory RECORDS DAMAGED                    the recast report of an input in memory, as a call
 //!     bench input RECORDS DAMAGED                     an input of the recast report; one in DAMAGED records has a wrong column (0: none)
 //!     bench report RECORDS DAMAGED INPUT PEER LOADER LIBRARIES OURS     the two programs over that input, processor time
 
@@ -25,6 +26,15 @@ extern "C" {
         place: *mut u64,
         lost_low: *mut u64,
         lost_high: *mut u64,
+    ) -> u64;
+    fn trial_report(
+        input: *const u8,
+        length: usize,
+        out: *mut u8,
+        room: usize,
+        last: *mut u8,
+        last_room: usize,
+        closing: *mut u64,
     ) -> u64;
 }
 
@@ -152,15 +162,14 @@ fn calls() {
         cases.iter_mut().for_each(|case| case.time(30));
     }
     for Case { name, ours, theirs, .. } in &cases {
-        println!("{name}: ours {ours:.0} ns, peer {theirs:.0} ns, ratio {:.1}", ours / theirs);
+        println!("{name}: ours {ours:.1} ns, peer {theirs:.1} ns, ratio {:.2}", ours / theirs);
     }
 }
 
-/// An input of the recast report to edition 4, records of all editions in turn.
-fn input(count: usize, damaged: usize) -> io::Result<()> {
+/// Writes an input of the recast report to edition 4, records of all editions in turn.
+fn put_input(sink: &mut impl Write, count: usize, damaged: usize) -> io::Result<()> {
     let limits = Limits::new();
     let mut chance = Chance::new(2);
-    let mut sink = BufWriter::with_capacity(1 << 16, io::stdout().lock());
     sink.write_all(b"4\n")?;
     for index in 0..count {
         let edition = Edition::ALL[index % 3];
@@ -169,7 +178,62 @@ fn input(count: usize, damaged: usize) -> io::Result<()> {
             sink.write_all(b"\n")?;
         }
     }
+    Ok(())
+}
+
+fn input(count: usize, damaged: usize) -> io::Result<()> {
+    let mut sink = BufWriter::with_capacity(1 << 16, io::stdout().lock());
+    put_input(&mut sink, count, damaged)?;
     sink.flush()
+}
+
+fn word_for(damaged: usize) -> &'static str {
+    if damaged == 0 {
+        "accepted"
+    } else {
+        "one in ten damaged"
+    }
+}
+
+/// The report of an input in memory, ours as the library makes it and the peer's as its program does, the best of some rounds.
+fn memory(count: usize, damaged: usize) -> io::Result<bool> {
+    let mut input = Vec::new();
+    put_input(&mut input, count, damaged)?;
+    let mut room = vec![0u8; 64 * count + 4096];
+    let mut last = [0u8; 2048];
+    let (mut our_best, mut their_best) = (f64::INFINITY, f64::INFINITY);
+    for _ in 0..20 {
+        let mut closing = 0;
+        let start = Instant::now();
+        // The input is readable for its length, what is written to is ours, and none overlaps another.
+        let written = unsafe {
+            trial_report(
+                input.as_ptr(),
+                input.len(),
+                room.as_mut_ptr(),
+                room.len(),
+                last.as_mut_ptr(),
+                last.len(),
+                &mut closing,
+            )
+        };
+        our_best = our_best.min(start.elapsed().as_nanos() as f64 / count as f64);
+        let (written, closing) = (written as usize, closing as usize);
+        let mut theirs = Vec::with_capacity(room.len());
+        let start = Instant::now();
+        peer::report::recast_report(&mut &input[..], &mut theirs)?;
+        their_best = their_best.min(start.elapsed().as_nanos() as f64 / count as f64);
+        if theirs != [&room[..written], &last[..closing]].concat() {
+            println!("the two reports differ");
+            return Ok(false);
+        }
+    }
+    println!(
+        "report in memory of {count} records, {}: ours {our_best:.0} ns, peer {their_best:.0} ns a record, ratio {:.2}",
+        word_for(damaged),
+        our_best / their_best
+    );
+    Ok(true)
 }
 
 #[repr(C)]
@@ -218,9 +282,9 @@ fn report(arguments: &[String]) -> io::Result<bool> {
             return Ok(false);
         }
     }
-    let word = if damaged == "0" { "accepted" } else { "one in ten damaged" };
+    let word = word_for(usize::from(damaged != "0"));
     println!(
-        "report of {count} records, {word}: ours {our_best:.0} ns, peer {their_best:.0} ns a record, ratio {:.1}",
+        "report of {count} records, {word}: ours {our_best:.0} ns, peer {their_best:.0} ns a record, ratio {:.2}",
         our_best / their_best
     );
     Ok(true)
@@ -234,6 +298,10 @@ fn main() -> ExitCode {
             calls();
             Ok(true)
         }
+        Some("memory") => match (number(1), number(2)) {
+            (Some(count), Some(damaged)) => memory(count, damaged),
+            _ => Ok(false),
+        },
         Some("input") => match (number(1), number(2)) {
             (Some(count), Some(damaged)) => input(count, damaged).map(|()| true),
             _ => Ok(false),

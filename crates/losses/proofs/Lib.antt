@@ -2,5 +2,6 @@
 pub mod Ways
 pub mod Words
 pub mod Listed
+pub mod WordElements
 pub mod LossLaws
 pub mod Demand3Losses

@@ -23,6 +23,11 @@ unfoldable pub word : (ℕ → Bool) → ℕ → ℕ → ℕ
 word f k zero = 0
 word f k (suc n) = bit (f k) + word f (suc k) n * 2
 
+-- the elements of a word of n bits whose bit 0 is element k, rising
+unfoldable pub elementsOf : ℕ → ℕ → ℕ → List ℕ
+elementsOf k zero w = []
+elementsOf k (suc n) w = cond (eqb (w % 2) 1) (k ∷ elementsOf (suc k) n (w / 2)) (elementsOf (suc k) n (w / 2))
+
 abbrev pub losses : ℕ → ℕ → Losses
 losses a b = record { low = a; high = b }
 

@@ -1,19 +1,23 @@
 -- Texts put one after the other, and how long the lines of a report are. Assumes nothing.
-use mathlib.Core.Path.{_≡_, refl, sym, ap, _∙_}
+use mathlib.Core.Path.{_≡_, refl, sym, ap, ap₂, _∙_}
 use mathlib.Core.Bool.{Bool, true, false, cond}
-use mathlib.Core.List.{List, [], _∷_, _++_}
-use Prim.Native.Nat.{ℕ, zero, suc, _+_, _-_, _*_, _<_, _≤_}
-use native.Mathlib.Numerals.{add-one}
+use mathlib.Core.List.{List, [], _∷_, _++_, append-assoc}
+use Prim.Native.Nat.{ℕ, zero, suc, _+_, _-_, _*_, _/_, _%_, _^_, _<_, _≤_}
+use native.Mathlib.Nat.{mod-eq-of-lt}
 use native.Mathlib.Omega.{arith}
 use lib.ListN.{length, length-append}
-use lib.Dec.{lit≤}
+use lib.Dec.{eqb, lit≤}
+use lib.Bits.{bitAnd}
+use lib.Count.{trailingZeros}
 use Rattle.numerals.specs.Spelling.{placed}
 use Rattle.wording.specs.Wording.{decimal}
 use Rattle.numerals.proofs.PlacedLaws.{placed-none, placed-length, placed-twice}
 use Rattle.wording.proofs.WordingLaws.{decimal-short, small-number}
-use Rattle.losses.specs.Losses.{elements}
+use Rattle.losses.specs.declared.Losses.{Losses}
+use Rattle.losses.specs.Losses.{elementsOf}
+use Rattle.losses.proofs.WordElements.{elements-of-none, elements-within, lowest-first, set-by-words}
 use Rattle.report_lines.specs.Puts.{Puts}
-use Rattle.report_lines.specs.Sentences.{blank, numbered, numbers, ifLost}
+use Rattle.report_lines.specs.Sentences.{blank, numbered, numbers, lost}
 
 -- from what the functions that put texts and numbers say
 pub puts : {text : List ℕ} {at : ℕ} {before after : List ℕ} {end : ℕ} → (after ≡ placed at text before) × (end ≡ at + length text) → Puts text at before after end
@@ -71,44 +75,53 @@ module _ {whole : List ℕ} {at : ℕ} {before : List ℕ} {end : ℕ} {now : Li
         ends = omega (arith, l .ending);
       }
 
--- the numbers of the elements from e to 101 that are lost
-module _ (f : ℕ → Bool) where
-  abbrev pub lostFrom : ℕ → List ℕ
-  lostFrom e = numbers (elements f e (102 - e))
+-- numbers, and then others
+numbers-append : (xs ys : List ℕ) → numbers (xs ++ ys) ≡ numbers xs ++ numbers ys
+unfolding numbers
+numbers-append [] ys = refl
+numbers-append (x ∷ xs) ys = ap (λ (t : List ℕ). numbered blank x ++ t) (numbers-append xs ys) ∙ sym (append-assoc (numbered blank x) (numbers xs) (numbers ys))
 
-  numbers-short : (k n : ℕ) → k + n ≤ 1000 → length (numbers (elements f k n)) ≤ 4 * n
-  unfolding elements numbers
-  numbers-short k zero h = omega arith
-  numbers-short k (suc n) h = by (f k) (numbers-short (suc k) n (omega arith))
-    where
-      by : (x : Bool) → length (numbers (elements f (suc k) n)) ≤ 4 * n → length (numbers (cond x (k ∷ elements f (suc k) n) (elements f (suc k) n))) ≤ 4 * suc n
-      by true l = omega (arith, length-append (numbered blank k) (numbers (elements f (suc k) n)), length-append blank (decimal k), small-number k (omega arith))
-      by false l = omega arith
+-- an element takes up four bytes at most
+numbers-short : (k n w : ℕ) → k + n ≤ 1000 → length (numbers (elementsOf k n w)) ≤ 4 * n
+unfolding elementsOf numbers
+numbers-short k zero w h = omega arith
+numbers-short k (suc n) w h = by (eqb (w % 2) 1) (elementsOf (suc k) n (w / 2)) (numbers-short (suc k) n (w / 2) (omega arith))
+  where
+    by : (x : Bool) (xs : List ℕ) → length (numbers xs) ≤ 4 * n → length (numbers (cond x (k ∷ xs) xs)) ≤ 4 * suc n
+    by true xs l = omega (arith, length-append (numbered blank k) (numbers xs), length-append blank (decimal k), small-number k (omega arith))
+    by false xs l = omega arith
 
-  pub lost-short : length (lostFrom 1) ≤ 404
-  lost-short = numbers-short 1 101 (lit≤ tt)
+-- the elements of a word: the lowest, and then those of the word without its lowest bit
+abbrev pub told : ℕ → ℕ → List ℕ
+told first w = numbers (elementsOf first 64 w)
 
-  -- an element that is lost is put, and one that is not is passed over
-  module _ (e : ℕ) {x : Bool} (same : x ≡ f e) where
-    pub lost-put : {at : ℕ} {before after : List ℕ} {end : ℕ} → x ≡ true → Puts (numbered blank e) at before after end → Puts (ifLost f e) at before after end
-    lost-put t p = rw (← same, t) p
+module _ (first w : ℕ) where
+  pub told-none : w ≡ 0 → told first w ≡ []
+  unfolding numbers
+  told-none z = rw z (ap numbers (elements-of-none first 64))
 
-    pub lost-pass : (at : ℕ) (before : List ℕ) → x ≡ false → Puts (ifLost f e) at before before at
-    lost-pass at before t = rw (← same, t) (nothing at before)
+  module _ (below : w < 2 ^ 64) (some : w ≡ 0 → ⊥) where
+    pub told-next : told first w ≡ numbered blank (first + trailingZeros 64 w) ++ told first (bitAnd w (w - 1))
+    unfolding numbers
+    told-next = ap numbers (lowest-first 64 first 64 w (lit≤ tt) below some)
 
-  module _ (e : ℕ) (h : e ≤ 101) where
-    next : 102 - e ≡ suc (102 - (e + 1))
-    next = omega arith
+    pub told-some : 1 ≤ length (told first w)
+    told-some = omega (arith, ap length told-next, length-append (numbered blank (first + trailingZeros 64 w)) (told first (bitAnd w (w - 1))))
 
-    pub lost-next : lostFrom e ≡ ifLost f e ++ lostFrom (e + 1)
-    unfolding elements numbers
-    lost-next = rw (next, add-one e) (by (f e))
-      where
-        by : (x : Bool) → numbers (cond x (e ∷ elements f (suc e) (102 - suc e)) (elements f (suc e) (102 - suc e)))
-            ≡ cond x (numbered blank e) [] ++ numbers (elements f (suc e) (102 - suc e))
-        by true = refl
-        by false = refl
+  -- n bits of it take up four bytes each at most
+  module _ (n m : ℕ) (e : n + m ≡ 64) (below : w < 2 ^ n) (low : first ≤ 65) where
+    told-short : length (told first w) ≤ 4 * n
+    told-short =
+        let few : told first w ≡ numbers (elementsOf first n w) =
+        ap₂ (λ (x y : ℕ). numbers (elementsOf first x y)) (sym e) (sym (mod-eq-of-lt below)) ∙ ap numbers (elements-within first n m w) in
+        omega (arith, ap length few, numbers-short first n w (omega arith))
 
-  pub lost-none : (e : ℕ) → 101 < e → lostFrom e ≡ []
-  unfolding elements numbers
-  lost-none e h = let z : 102 - e ≡ 0 = omega arith in rw z
+    pub told-room : (at long : ℕ) → at + (4 * n + 20) ≤ long → (at + length (told first w) + 20 ≤ long) × (first ≤ 65)
+    told-room at long h = (omega (arith, told-short), low)
+
+    pub told-end : {at end : ℕ} {before after : List ℕ} → Puts (told first w) at before after end → end ≤ at + 4 * n
+    told-end {at} {end} p = omega (arith, told-short, p .ends)
+
+-- the elements of a set: those of its first word, and then those of the 37 bits of its second that are elements'
+pub lost-by-words : (s : Losses) → lost s ≡ told 1 (s .low) ++ told 65 (s .high % 2 ^ 37)
+lost-by-words s = ap numbers (set-by-words s) ∙ numbers-append (elementsOf 1 64 (s .low)) (elementsOf 65 64 (s .high % 2 ^ 37))

@@ -1,6 +1,5 @@
 -- The lines of the recast report, byte by byte: the heading, the line of a record, the last line. Assumes nothing.
 use Prim.Native.Nat.{ℕ}
-use mathlib.Core.Bool.{Bool, cond}
 use mathlib.Core.List.{List, [], _∷_, _++_}
 use Rattle.layout.specs.declared.Edition.{Edition}
 use Rattle.layout.specs.Editions.{editionNumber}
@@ -46,10 +45,7 @@ unfoldable pub numbers : List ℕ → List ℕ
 numbers [] = []
 numbers (n ∷ ns) = numbered blank n ++ numbers ns
 
--- an element, where it is lost; and all that are lost, rising
-abbrev pub ifLost : (ℕ → Bool) → ℕ → List ℕ
-ifLost f e = cond (f e) (numbered blank e) []
-
+-- the elements that are lost, rising
 abbrev pub lost : Losses → List ℕ
 lost l = numbers (elements (hasLoss l) 1 101)
 

@@ -10,11 +10,11 @@ use wording::put_number;
 use wording::put_text;
 ghost use Prim.Native.Nat.{_+_, _≤_};
 ghost use lib.ListN.{length};
-ghost use Rattle.losses.specs.Losses.{hasLoss};
+ghost use Rattle.losses.specs.Losses.{elementsOf};
 ghost use Rattle.recasting.specs.declared.Outcome.the-variants.{Done, Unrecast};
 ghost use Rattle.wording.specs.Wording.{decimal};
 ghost use Rattle.report_lines.specs.Puts.{Puts};
-ghost use Rattle.report_lines.specs.Sentences.{numbered, notHeld, ifLost, lost, recordLine, heading, totals};
+ghost use Rattle.report_lines.specs.Sentences.{numbered, numbers, notHeld, lost, recordLine, heading, totals};
 
 // Puts the count of a record, which begins its line.
 fn put_count(out: &mut [u8], at: usize, count: u64) -> usize
@@ -35,31 +35,30 @@ fn put_numbered(out: &mut [u8], at: usize, word: &[u8], n: u64) -> usize
     put_number(out, after, n)
 }
 
-// Puts the number of an element, with a blank before it, where the element is lost.
-fn put_element(out: &mut [u8], at: usize, losses: Losses, e: usize) -> usize
-    requires { ⌜ at + 21 ≤ length (now out) ⌝ }
-    ensures { λ r. ⌜ Puts (ifLost (hasLoss losses) e) at (now (out .entry)) (now (out .exit)) r ⌝ }
-    ensures { λ r. ⌜ r ≤ at + 21 ⌝ }
+// Puts the elements of a word of the set, rising: each is the lowest bit of those that are left. Bit 0 is
+// element `first`.
+fn put_word(out: &mut [u8], at: usize, word: u64, first: u64) -> usize
+    requires { ⌜ (at + length (numbers (elementsOf first 64 word)) + 20 ≤ length (now out)) × (first ≤ 65) ⌝ }
+    ensures { λ r. ⌜ Puts (numbers (elementsOf first 64 word)) at (now (out .entry)) (now (out .exit)) r ⌝ }
 {
-    if losses.has(e) {
-        return put_numbered(out, at, b" ", e as u64);
+    let mut end = at;
+    let mut left = word;
+    while left != 0 {
+        let e = first + u64::trailing_zeros(left) as u64;
+        end = put_numbered(out, end, b" ", e);
+        left = left & (left - 1);
     }
-    at
+    end
 }
 
-// Puts the elements lost, rising.
+// Puts the elements lost, rising. The second word has 37 of them, 65 to 101: a bit above is no element's.
 fn put_lost(out: &mut [u8], at: usize, losses: Losses) -> usize
     requires { ⌜ at + 425 ≤ length (now out) ⌝ }
     ensures { λ r. ⌜ Puts (lost losses) at (now (out .entry)) (now (out .exit)) r ⌝ }
     ensures { λ r. ⌜ r ≤ at + 404 ⌝ }
 {
-    let mut end = at;
-    let mut e = 1;
-    while e <= 101 {
-        end = put_element(out, end, losses, e);
-        e += 1;
-    }
-    end
+    let end = put_word(out, at, losses.low, 1);
+    put_word(out, end, losses.high % 0x20_0000_0000, 65)
 }
 
 // Puts the line of a record that is recast.

@@ -1,54 +1,30 @@
--- `report_lines::put_lost` meets its contract: what is left to put gives what the whole gives. Assumes nothing.
-use Prim.Native.Nat.{_-_, _≤_}
-use Rattle.report_lines.proofs.PutLaws.{Left, left-all, left-end, left-put, lostFrom, lost-next, lost-none, lost-short}
-use Rattle.losses.specs.Losses.{hasLoss}
+-- `report_lines::put_lost` meets its contract: the elements of the first word, and then those of the second. Assumes nothing.
+use Rattle.report_lines.proofs.PutLaws.{also, lost-by-words, renamed, told-end, told-room}
+use borrow.Author.Needs.{needs}
+use mathlib.Core.Path.{refl, sym}
 use native.Mathlib.Omega.{arith}
 use Rattle.report_lines.proofs.put_lost.Statement.{statement}
 use Rattle.report_lines.proofs.put_lost.Tie as tie
 
-abbrev Inv-loop : tie.InvT-loop
-Inv-loop out₀ at losses end₀ e₀ out end e = (e ≤ 102) × Left (lostFrom (hasLoss losses) 1) at out₀ (lostFrom (hasLoss losses) e) end out
+put-word-requires : tie.Need-put-word-requires
+put-word-requires c κs = told-room _ _ 64 0 refl (search needs) (omega arith) _ _ (omega arith)
 
-abbrev μ-loop : tie.MeasureT-loop
-μ-loop out₀ at losses end₀ e₀ out end e = 102 - e
+put-word-requires-2 : tie.Need-put-word-requires-2
+put-word-requires-2 c κs =
+    let first = c .before .before .before .before in
+    let end = told-end _ _ 64 0 refl (search needs) (omega arith) (first .put-word .ensures) in
+    told-room _ _ 37 27 refl (omega arith) (omega arith) _ _ (omega arith)
 
-loop-holds : tie.Need-loop-holds Inv-loop μ-loop
-loop-holds c = (omega arith, left-all _ _ _)
+same-length : tie.Need-same-length
+same-length c = search needs
 
-put-element-requires : tie.Need-put-element-requires Inv-loop μ-loop
-put-element-requires c κs = omega (arith, c .before .before .loop .inv .1 .ending, c .before .before .loop .inv .1 .long, lost-short (hasLoss (c .before .before .before .before .args .losses)))
-
-add-e : tie.Need-add-e Inv-loop μ-loop
-add-e c = omega arith
-
-loop-less : tie.Need-loop-less Inv-loop μ-loop
-loop-less c = omega arith
-
-loop-again : tie.Need-loop-again Inv-loop μ-loop
-loop-again c =
-    let l = c .before .before .before .before .before .loop in
-    let f = hasLoss (c .before .before .before .before .before .before .before .args .losses) in
-    (omega arith, left-put (l .inv .1) (lost-next f (l .e) (c .before .before .before .before .loop-test .taken)) (c .before .before .put-element .ensures .0) (omega (arith, lost-short f)))
-
-same-length : tie.Need-same-length Inv-loop μ-loop
-same-length c = c .before .loop .inv .1 .long
-
-returns : tie.Need-returns Inv-loop μ-loop
+returns : tie.Need-returns
 returns c =
-    let l = c .before .loop in
-    let f = hasLoss (c .before .before .before .args .losses) in
-    (left-end (l .inv .1) (lost-none f (l .e) (c .loop-test .left)), omega (arith, l .inv .1 .ending, lost-short f))
+    let second = c .before .before in
+    let first = second .before .before .before .before .before in
+    let end = told-end _ _ 64 0 refl (search needs) (omega arith) (first .put-word .ensures) in
+    let last = told-end _ _ 37 27 refl (omega arith) (omega arith) (second .put-word2 .ensures) in
+    (renamed (sym (lost-by-words _)) (also (first .put-word .ensures) (second .put-word2 .ensures) (omega arith)), omega arith)
 
 pub put-lost-spec : {M : Type 1} → statement M
-put-lost-spec =
-    tie.close
-    (tie.spec
-    Inv-loop
-    μ-loop
-    loop-holds
-    put-element-requires
-    add-e
-    loop-less
-    loop-again
-    same-length
-    returns)
+put-lost-spec = tie.close (tie.spec put-word-requires put-word-requires-2 same-length returns)

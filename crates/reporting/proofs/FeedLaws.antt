@@ -8,12 +8,13 @@ use native.Mathlib.Omega.{arith}
 use borrow.Author.Tests.{eqb-true}
 use lib.Dec.{eqb}
 use lib.ListN.{length, getD, take, drop, length-drop}
-use lib.Seq.{getD-drop, take-all, take-add, take-suc, take-length, length-take-le}
-use Rattle.bytes.specs.Bytes.{indexOf, indexAfter, slice}
+use lib.Seq.{getD-drop, take-all, take-add, take-suc, length-take-le}
+use Rattle.bytes.specs.Bytes.{indexOf, indexAfter}
 use Rattle.report_lines.specs.Puts.{Puts}
 use Rattle.reporting.specs.declared.Ledger.{Ledger}
 use Rattle.reporting.specs.declared.Run.{Run}
 use Rattle.reporting.specs.declared.Told.{Told}
+use Rattle.reporting.specs.Lines.{nextEnd}
 use Rattle.reporting.specs.Run.{State, state, ledgerAfter, saidOf, kept, step, stateAfter, saidBy}
 use Rattle.reporting.specs.Contracts.{Tells, Feeds}
 use Rattle.report_lines.proofs.PutLaws.{nothing, also}
@@ -75,7 +76,7 @@ so-far-none l held piece before count h k =
 
 -- the bytes from `at` to the next line end, or to the end of the piece
 module _ {s : State} {piece before now held : List ℕ} {l : Ledger} {count at written : ℕ} (f : SoFar s piece before now held l count at written) (end : ℕ)
-    (e : end ≡ at + indexOf 10 (slice at (length piece) piece)) (h : end ≤ length piece) where
+    (e : end ≡ nextEnd piece at) (h : end ≤ length piece) where
   abbrev rest : List ℕ
   rest = drop at piece
 
@@ -84,8 +85,7 @@ module _ {s : State} {piece before now held : List ℕ} {l : Ledger} {count at w
 
   -- that is how long they are
   index : end - at ≡ indexOf 10 rest
-  unfolding slice
-  index = let whole : take (length piece) piece ≡ piece = take-length piece in omega (arith, rw whole at e)
+  index = omega (arith, e)
 
   span : take end piece ≡ take at piece ++ line
   span = let sum : end ≡ at + (end - at) = omega (arith, f .within) in ap (λ (k : ℕ). take k piece) sum ∙ take-add at (end - at) piece

@@ -4,6 +4,7 @@ pub mod RunLaws
 pub mod TellLaws
 pub mod KeepLaws
 pub mod FinishLaws
+pub mod EndLaws
 pub mod FeedLaws
 pub mod Demand2Run
 pub mod ReportCases

@@ -1,8 +1,10 @@
 -- The lines of an input: a line ends at byte 10 alone, and what stands after the last one is a line where it is not empty. Assumes nothing.
-use Prim.Native.Nat.{ℕ}
+use Prim.Native.Nat.{ℕ, _+_}
 use mathlib.Core.Bool.{cond}
 use mathlib.Core.List.{List, [], _∷_, _++_}
 use lib.Dec.{eqb}
+use lib.ListN.{drop}
+use Rattle.bytes.specs.Bytes.{indexOf}
 
 -- the last line of an input that ends without byte 10
 abbrev pub lastLine : List ℕ → List (List ℕ)
@@ -16,3 +18,7 @@ linesFrom held (b ∷ rest) = cond (eqb b 10) (held ∷ linesFrom [] rest) (line
 
 abbrev pub linesOf : List ℕ → List (List ℕ)
 linesOf input = linesFrom [] input
+
+-- where the line ends that a place of a piece lies in: at the next byte 10 from there on, or at the end of the piece
+abbrev pub nextEnd : List ℕ → ℕ → ℕ
+nextEnd piece at = at + indexOf 10 (drop at piece)

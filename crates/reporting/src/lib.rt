@@ -3,6 +3,9 @@
 // The first line of the input names the edition asked for, and each line after it is a record. The
 // contracts cite specs/Run.antt, where the run is told byte by byte; that a run says the report of the
 // whole input, in whatever pieces it was fed, is proved in proofs/Demand2Run.antt.
+mod ends;
+
+use ends::line_end;
 use layout::Edition;
 use layout::Named;
 use recasting::Outcome;
@@ -246,7 +249,7 @@ pub fn feed(run: Run, piece: &[u8], out: &mut [u8]) -> Fed
         if out.len() - written < 512 {
             break;
         }
-        let end = bytes::scan::find(piece, at, piece.len(), b'\n');
+        let end = line_end(piece, at);
         if end == piece.len() {
             count = keep(&mut held, count, &piece[at..end]);
             at = end;

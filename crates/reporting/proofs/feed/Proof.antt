@@ -24,20 +24,20 @@ loop-holds c = so-far-none _ _ _ _ _ (omega (arith, c .least .ensures)) (search 
 sub-if1 : tie.Need-sub-if1 Inv-loop μ-loop
 sub-if1 c = omega (arith, c .before .loop .inv .room, c .before .loop .inv .long)
 
-find-requires : tie.Need-find-requires Inv-loop μ-loop
-find-requires c κs = (c .before .before .loop .inv .within, omega arith)
+line-end-requires : tie.Need-line-end-requires Inv-loop μ-loop
+line-end-requires c κs = c .before .before .loop .inv .within
 
 slice-aggregate-keep : tie.Need-slice-aggregate-keep Inv-loop μ-loop
 slice-aggregate-keep c = sym (c .before .before .before .before .before .loop .inv .full)
 
 sub-keep : tie.Need-sub-keep Inv-loop μ-loop
-sub-keep c = omega (arith, c .before .before .find .ensures .0)
+sub-keep c = omega (arith, c .before .before .line-end .ensures .0)
 
 part-keep-start : tie.Need-part-keep-start Inv-loop μ-loop
-part-keep-start c = omega (arith, c .before .before .find .ensures .0)
+part-keep-start c = omega (arith, c .before .before .line-end .ensures .0)
 
 part-keep-end : tie.Need-part-keep-end Inv-loop μ-loop
-part-keep-end c = c .before .before .find .ensures .1
+part-keep-end c = c .before .before .line-end .ensures .1
 
 keep-requires : tie.Need-keep-requires Inv-loop μ-loop
 keep-requires c κs = (c .before .before .before .before .before .before .loop .inv .short, c .before .before .before .before .before .before .loop .inv .full)
@@ -46,34 +46,34 @@ loop-less : tie.Need-loop-less Inv-loop μ-loop
 loop-less c = omega (arith, c .before .before .before .before .if2 .taken, c .before .before .before .before .before .before .before .loop-test .taken)
 
 loop-again : tie.Need-loop-again Inv-loop μ-loop
-loop-again c = so-far-kept (c .before .before .before .before .before .before .before .before .loop .inv) (c .before .before .before .before .before .find .result) (c .before .before .before .before .before .find .ensures .0) (c .before .before .before .before .before .find .ensures .1) (c .before .keep .ensures .0) (c .before .keep .kept .0 ∙ c .before .before .before .before .before .before .before .before .loop .inv .full) (c .before .keep .ensures .1)
+loop-again c = so-far-kept (c .before .before .before .before .before .before .before .before .loop .inv) (c .before .before .before .before .before .line-end .result) (c .before .before .before .before .before .line-end .ensures .0) (c .before .before .before .before .before .line-end .ensures .1) (c .before .keep .ensures .0) (c .before .keep .kept .0 ∙ c .before .before .before .before .before .before .before .before .loop .inv .full) (c .before .keep .ensures .1)
 
 add-next : tie.Need-add-next Inv-loop μ-loop
-add-next c = omega (arith, c .before .find .ensures .1, c .if2 .left)
+add-next c = omega (arith, c .before .line-end .ensures .1, c .if2 .left)
 
 slice-aggregate-take-ended : tie.Need-slice-aggregate-take-ended Inv-loop μ-loop
 slice-aggregate-take-ended c = sym (c .before .before .before .before .before .loop .inv .full)
 
 sub-take-ended : tie.Need-sub-take-ended Inv-loop μ-loop
-sub-take-ended c = omega (arith, c .before .before .find .ensures .0)
+sub-take-ended c = omega (arith, c .before .before .line-end .ensures .0)
 
 part-take-ended-start : tie.Need-part-take-ended-start Inv-loop μ-loop
-part-take-ended-start c = omega (arith, c .before .before .find .ensures .0)
+part-take-ended-start c = omega (arith, c .before .before .line-end .ensures .0)
 
 part-take-ended-end : tie.Need-part-take-ended-end Inv-loop μ-loop
-part-take-ended-end c = omega (arith, c .before .before .find .ensures .1, c .before .if2 .left)
+part-take-ended-end c = omega (arith, c .before .before .line-end .ensures .1, c .before .if2 .left)
 
 take-ended-requires : tie.Need-take-ended-requires Inv-loop μ-loop
 take-ended-requires c κs = ((c .before .before .before .before .before .before .before .loop .inv .short, c .before .before .before .before .before .before .before .loop .inv .full), omega (arith, c .before .before .before .before .before .if1 .left, c .before .before .before .before .before .before .before .loop .inv .room, c .before .before .before .before .before .before .before .loop .inv .long))
 
 loop-less-2 : tie.Need-loop-less-2 Inv-loop μ-loop
-loop-less-2 c = omega (arith, c .before .before .before .before .before .before .before .before .before .find .ensures .0, c .before .before .before .before .before .before .before .before .before .before .before .loop-test .taken)
+loop-less-2 c = omega (arith, c .before .before .before .before .before .before .before .before .before .line-end .ensures .0, c .before .before .before .before .before .before .before .before .before .before .before .loop-test .taken)
 
 loop-again-2 : tie.Need-loop-again-2 Inv-loop μ-loop
 loop-again-2 c =
     let i = c .before .before .before .before .before .before .before .before .before .before .before .before .loop .inv in
     let t = c .before .before .before .before .take-ended in
-    so-far-line i (c .before .before .before .before .before .before .before .before .before .find .result) (c .before .before .before .before .before .before .before .before .before .find .ensures .0) (c .before .before .before .before .before .before .before .before .before .find .ensures .1) (c .before .before .before .before .before .before .before .before .if2 .left) (t .ensures) (t .kept .1 .1 .1 .1 .0) (t .kept .0 ∙ i .full) (omega (arith, t .ensures .short, c .before .before .before .before .before .before .before .before .before .before .if1 .left, i .room, i .long))
+    so-far-line i (c .before .before .before .before .before .before .before .before .before .line-end .result) (c .before .before .before .before .before .before .before .before .before .line-end .ensures .0) (c .before .before .before .before .before .before .before .before .before .line-end .ensures .1) (c .before .before .before .before .before .before .before .before .if2 .left) (t .ensures) (t .kept .1 .1 .1 .1 .0) (t .kept .0 ∙ i .full) (omega (arith, t .ensures .short, c .before .before .before .before .before .before .before .before .before .before .if1 .left, i .room, i .long))
 
 same-length : tie.Need-same-length Inv-loop μ-loop
 same-length c = c .before .loop .inv .long
@@ -96,7 +96,7 @@ feed-spec =
     least-requires
     loop-holds
     sub-if1
-    find-requires
+    line-end-requires
     slice-aggregate-keep
     sub-keep
     part-keep-start

@@ -108,9 +108,21 @@ pub decimal-spelled : (n : ℕ) → decimal n ≡ spelled 10 48 (length (decimal
 unfolding decimal
 decimal-spelled n = spelled-from 20 n
 
--- where as many digits are spelled as a number has, the number is placed
-pub number-placed : (at width n : ℕ) (before : List ℕ) → width ≡ length (decimal n) → placed at (spelled 10 48 width n) before ≡ placed at (decimal n) before
-number-placed at width n before e = ap (λ (t : List ℕ). placed at t before) (ap (λ (w : ℕ). spelled 10 48 w n) e ∙ sym (decimal-spelled n))
+-- where as many digits are spelled as a number has, the number is put
+pub number-put : (at width n : ℕ) (before : List ℕ) {after : List ℕ} → width ≡ length (decimal n) → after ≡ placed at (spelled 10 48 width n) before →
+    (after ≡ placed at (decimal n) before) × (at + width ≡ at + length (decimal n))
+number-put at width n before e p =
+    (p ∙ ap (λ (t : List ℕ). placed at t before) (ap (λ (w : ℕ). spelled 10 48 w n) e ∙ sym (decimal-spelled n)), ap (λ (w : ℕ). at + w) e)
+
+-- a number of one digit, and one of two
+module _ (n : ℕ) where
+  pub one-place : n < 10 → 1 ≡ length (decimal n)
+  unfolding decimal
+  one-place h = sym (one-long 19 n h)
+
+  pub two-places : 10 ≤ n → n < 100 → 2 ≡ length (decimal n)
+  unfolding decimal
+  two-places h l = omega (arith, more-long 19 n h, one-long 18 (n / 10) (omega arith))
 
 -- the loop that counts digits: every u64 has at most twenty, each turn counts one of those that `left` has
 pub count-starts : (n : ℕ) → n < 2 ^ 64 → (n < 10 ^ (20 - 0)) × (0 + length (decimalFrom (20 - 0) n) ≡ length (decimal n))

@@ -49,11 +49,20 @@ fn spell(out: &mut [u8], at: usize, width: usize, n: u64)
     }
 }
 
-// Puts a number into the buffer from `at` on, and answers the place after its last digit.
+// Puts a number into the buffer from `at` on, and answers the place after its last digit. Most numbers of
+// a report have one digit or two: these are put without counting digits first.
 pub fn put_number(out: &mut [u8], at: usize, n: u64) -> usize
     requires { ⌜ at + 20 ≤ length (now out) ⌝ }
     ensures { λ r. ⌜ (now (out .exit) ≡ placed at (decimal n) (now (out .entry))) × (r ≡ at + length (decimal n)) ⌝ }
 {
+    if n < 10 {
+        spell(out, at, 1, n);
+        return at + 1;
+    }
+    if n < 100 {
+        spell(out, at, 2, n);
+        return at + 2;
+    }
     let width = places(n);
     spell(out, at, width, n);
     at + width

@@ -3,8 +3,8 @@
 use mathlib.Core.Path.{_≡_, refl, sym, ap, ap₂, _∙_}
 use mathlib.Core.List.{List, [], _∷_, _++_}
 use mathlib.Core.Logic.{_⊎_, inl, inr}
-use mathlib.Core.Bool.{Bool, true, false, cond}
-use Prim.Native.Nat.{ℕ, zero, suc, _+_, _-_, _*_, _/_, _%_, _^_, _<_, _≤_, min}
+use mathlib.Core.Bool.{Bool, cond}
+use Prim.Native.Nat.{ℕ, zero, suc, _+_, _-_, _*_, _/_, _%_, _^_, _<_, _≤_}
 use native.Mathlib.Nat.{add-suc, suc-add, add-zero, zero-add, div-one, mod-one, pow-suc, div-lt-iff-lt-mul}
 use native.Mathlib.Numerals.{add-one, one-add}
 use native.Mathlib.Omega.{arith}
@@ -26,6 +26,7 @@ parity w = by (w % 2) refl
     by (suc zero) e = inr e
     by (suc (suc p)) e = absurd (omega arith)
 
+-- a word of zeros has none
 pub elements-of-none : (k n : ℕ) → elementsOf k n 0 ≡ []
 unfolding elementsOf
 elements-of-none k zero = refl
@@ -51,6 +52,7 @@ doubled k n w =
     let even : w * 2 % 2 ≡ 0 = omega arith in
     rw (even, half)
 
+-- those of a word that is not 0: the zeros below its lowest one lead to the first, and the word without that one has the others
 pub lowest-first : (d k n w : ℕ) → n ≤ d → w < 2 ^ n → (w ≡ 0 → ⊥) → elementsOf k n w ≡ (k + trailingZeros d w) ∷ elementsOf k n (bitAnd w (w - 1))
 unfolding elementsOf trailingZeros
 lowest-first d k zero w l b h = absurd (h (omega arith))
@@ -64,6 +66,7 @@ lowest-first (suc d) k (suc n) w l b h = by (lowest-first d (suc k) n (w / 2) (o
         rw (o, even-without w o h, add-suc, ← suc-add) (rest (λ z. h (omega arith)) ∙
         ap (λ (xs : List ℕ). (suc k + trailingZeros d (w / 2)) ∷ xs) (sym (doubled k n (bitAnd (w / 2) (w / 2 - 1)))))
 
+-- bit i + 1 of a word is bit i of its half
 bit-of-half : (w i : ℕ) → hasBit w (suc i) ≡ hasBit (w / 2) i
 bit-of-half w i = ap (λ (x : ℕ). eqb (x % 2) 1) (sym (shr-shr w 1 i ∙ ap (λ (x : ℕ). w / 2 ^ x) (one-add i)))
 

@@ -1,7 +1,7 @@
-// Where a line of the input ends, sixteen bytes at a time.
+// Where a line of the input ends.
 //
-// Most of a report's time beside the recast itself would go into looking for the ends of lines byte by
-// byte.
+// A record has 131 or 159 bytes, and to look at each of them alone would take longer than to put the
+// record's line: so sixteen are looked at together.
 ghost use mathlib.Core.Path.{_≡_};
 ghost use Prim.Native.Nat.{_+_, _≤_};
 ghost use lib.ListN.{length};
@@ -15,7 +15,7 @@ fn ends_line(byte: u8) -> u8
 }
 
 // 0 where no line ends among the sixteen bytes from `at` on. Each of them is looked at, whatever those
-// before it are, so that the processor takes all sixteen at once.
+// before it are, so that the processor takes all sixteen at once; which of them ends a line is not said.
 fn ends_in_sixteen(piece: &[u8], at: usize) -> u8
     requires { ⌜ at + 16 ≤ length (now piece) ⌝ }
     ensures { λ r. ⌜ (r ≡ 0 → nextEnd (now (piece .entry)) at ≡ nextEnd (now (piece .entry)) (at + 16)) ⌝ }

@@ -97,7 +97,7 @@ fn digit_of(b: u8) -> u32
 }
 
 // Is it edition 1?
-fn is_first(edition: Edition) -> bool
+pub fn is_first(edition: Edition) -> bool
     ensures { λ r. ⌜ r ≡ isFirst edition ⌝ }
 {
     match edition {

@@ -1,4 +1,4 @@
--- The elements that all editions have alike: those before column 70 but for column 12, and those of columns 81 to 109. Assumes nothing.
+-- The elements that all editions have alike: those before column 70 but for column 12, and those of columns 81 to 109; and that editions 3 and 4 have. Assumes nothing.
 use mathlib.Core.Path.{_≡_, refl, sym, ap, _∙_}
 use mathlib.Core.Bool.{Bool, true, false}
 use mathlib.Core.List.{List, map}
@@ -21,8 +21,8 @@ no-texts One = refl
 no-texts Three = refl
 no-texts Four = refl
 
--- where antt computes that every edition has for them the texts of edition 4, each of them is alike in all
-module _ (k n : ℕ) (same : (ed : Edition) → map (textsIn ed) (part k n) ≡ map (textsIn Four) (part k n)) (e : ℕ) (l : k ≤ e) (h : e < k + n) where
+-- where antt computes that an edition has for them the texts of edition 4, it has them for each
+module _ (k n e : ℕ) (l : k ≤ e) (h : e < k + n) where
   texts-in : (ed : Edition) → getD (map (textsIn ed) (part k n)) (e - k) (textsIn ed none) ≡ textsOf ed e
   unfolding element
   texts-in ed =
@@ -30,20 +30,25 @@ module _ (k n : ℕ) (same : (ed : Edition) → map (textsIn ed) (part k n) ≡ 
       List·getD-map (textsIn ed) (part k n) (e - k) none ∙
       ap (textsIn ed) (getD-take n (drop k elements) (e - k) none (omega arith) ∙ getD-drop k elements (e - k) none ∙ ap (λ (i : ℕ). getD elements i none) place)
 
-  as-in-four : (ed : Edition) → textsOf ed e ≡ textsOf Four e
-  as-in-four ed = sym (texts-in ed) ∙ rw (same ed, no-texts ed) (texts-in Four)
+  as-in-four : (ed : Edition) → map (textsIn ed) (part k n) ≡ map (textsIn Four) (part k n) → textsOf ed e ≡ textsOf Four e
+  as-in-four ed same = sym (texts-in ed) ∙ rw (same, no-texts ed) (texts-in Four)
 
-  alike-in : (from to : Edition) → textsOf from e ≡ textsOf to e
-  alike-in from to = as-in-four from ∙ sym (as-in-four to)
+  alike-in : ((ed : Edition) → map (textsIn ed) (part k n) ≡ map (textsIn Four) (part k n)) → (from to : Edition) → textsOf from e ≡ textsOf to e
+  alike-in same from to = as-in-four from (same from) ∙ sym (as-in-four to (same to))
 
 pub early-alike : (e : ℕ) → e ≤ 39 → (e ≡ 6 → ⊥) → (from to : Edition) → textsOf from e ≡ textsOf to e
 unfolding page
 early-alike e h not-six = by (leb e 5) refl
   where
     by : (x : Bool) → leb e 5 ≡ x → (from to : Edition) → textsOf from e ≡ textsOf to e
-    by true l = alike-in 0 6 (elim [ One ↦ refl | Three ↦ refl | Four ↦ refl ]) e (omega arith) (omega (arith, leb-true e 5 l))
-    by false l = alike-in 7 33 (elim [ One ↦ refl | Three ↦ refl | Four ↦ refl ]) e (omega (arith, leb-false e 5 l, not-six)) (omega arith)
+    by true l = alike-in 0 6 e (omega arith) (omega (arith, leb-true e 5 l)) (elim [ One ↦ refl | Three ↦ refl | Four ↦ refl ])
+    by false l = alike-in 7 33 e (omega (arith, leb-false e 5 l, not-six)) (omega arith) (elim [ One ↦ refl | Three ↦ refl | Four ↦ refl ])
 
 pub added-alike : (e : ℕ) → 44 ≤ e → e ≤ 63 → (from to : Edition) → textsOf from e ≡ textsOf to e
 unfolding page
-added-alike e l h = alike-in 44 20 (elim [ One ↦ refl | Three ↦ refl | Four ↦ refl ]) e l (omega arith)
+added-alike e l h = alike-in 44 20 e l (omega arith) (elim [ One ↦ refl | Three ↦ refl | Four ↦ refl ])
+
+-- those that editions 3 and 4 have alike and edition 1 does not have
+pub later-alike : (e : ℕ) → 87 ≤ e → e ≤ 93 → textsOf Three e ≡ textsOf Four e
+unfolding page
+later-alike e l h = as-in-four 87 7 e l (omega arith) Three refl

@@ -9,3 +9,4 @@ pub mod Parts
 pub mod RecordLaws
 pub mod Singles
 pub mod Alike
+pub mod Lacking

@@ -5,3 +5,4 @@ pub mod Listed
 pub mod WordElements
 pub mod LossLaws
 pub mod Demand3Losses
+pub mod Joined

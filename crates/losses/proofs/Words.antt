@@ -18,10 +18,10 @@ bit-below : (b : Bool) → bit b < 2
 bit-below true = omega arith
 bit-below false = omega arith
 
-half : (b : Bool) (w : ℕ) → (bit b + w * 2) / 2 ≡ w
+pub half : (b : Bool) (w : ℕ) → (bit b + w * 2) / 2 ≡ w
 half b w = omega (arith, bit-below b)
 
-odd : (b : Bool) (w : ℕ) → (bit b + w * 2) % 2 ≡ bit b
+pub odd : (b : Bool) (w : ℕ) → (bit b + w * 2) % 2 ≡ bit b
 odd b w = omega (arith, bit-below b)
 
 pub word-below : (f : ℕ → Bool) (k n : ℕ) → word f k n < 2 ^ n

@@ -1,5 +1,6 @@
 -- Spelling and reading undo each other, once for every base. Assumes nothing.
 use mathlib.Core.Path.{_≡_, refl, sym, ap, _∙_}
+use mathlib.Core.Bool.{true}
 use mathlib.Core.List.{List, [], _∷_, _++_, append-assoc, append-nil}
 use Prim.Native.Nat.{ℕ, zero, suc, _+_, _-_, _*_, _/_, _%_, _^_, _<_, _≤_}
 use native.Mathlib.Nat.{add-zero, div-add-mod', div-lt-iff-lt-mul, add-sub-cancel-left, not-suc-le-zero, pow-suc, pow-zero, pow-le-pow-right}
@@ -9,8 +10,9 @@ use lib.Dec.{lit<}
 use lib.Arith.{digits-div, digits-mod}
 use lib.ListN.{length, getD, take, drop, set, length-append, take-append-drop}
 use lib.Seq.{take-suc, take-all, getD-take, take-set-le, set-split, length-take-le, drop-at}
-use Rattle.text.specs.Bytes.{valueFrom}
-use Rattle.numerals.specs.Spelling.{spelled, placed}
+use Rattle.text.specs.Bytes.{every, between, blank, valueFrom}
+use Rattle.text.proofs.Ways.{and-first, and-second}
+use Rattle.numerals.specs.Spelling.{spelled, spell, inBlanks, placed}
 
 module _ (base nought : ℕ) where
   -- a value goes on from where it stands
@@ -89,3 +91,13 @@ seven-bytes n i h k = let l : i ≤ 6 = omega arith in omega (arith, pow-le-pow-
 
 pub byte-more : (n i b : ℕ) → n < 256 ^ i → b < 256 → n * 256 + b < 256 ^ (i + 1)
 byte-more n i b h k = rw (add-one, pow-suc) (omega arith)
+
+-- blanks are blank
+pub blanks-blank : (n : ℕ) → blank (spell n inBlanks) ≡ true
+unfolding spelled every
+blanks-blank zero = refl
+blanks-blank (suc n) = every-end (spelled 1 32 n 0) (blanks-blank n)
+  where
+    every-end : (t : List ℕ) → blank t ≡ true → blank (t ++ 32 ∷ []) ≡ true
+    every-end [] e = refl
+    every-end (b ∷ t) e = let h : between 32 32 b ≡ true = and-first _ _ e in rw h (every-end t (and-second (between 32 32 b) _ e))

@@ -30,7 +30,7 @@ use Rattle.meanings.specs.Kept.{keeps, lostText, lostAt}
 use Rattle.meanings.specs.Lost.{Expressible, Lost}
 use Rattle.meanings.proofs.SenseLaws.{same-sense}
 use Rattle.recasting.proofs.ResultLaws.{Plain, result, result-long, result-beyond, as-it-was, lost-blank, new-blank}
-use Rattle.recasting.proofs.EndLaws.{nothing-there}
+use Rattle.layout.proofs.Lacking.{nothing-there}
 use Rattle.recasting.proofs.NeverLaws.{shared, column-12, same}
 use Rattle.recasting.proofs.ColumnLaws.{digit-there, digit-number, Column, stays, moves, column, same-there}
 use Rattle.recasting.proofs.Demand3Accepted.{every-legal}

@@ -6,7 +6,6 @@ pub mod MakeLaws
 pub mod RecastLaws
 pub mod ResultLaws
 pub mod ColumnLaws
-pub mod EndLaws
 pub mod NeverLaws
 pub mod TiedLaws
 pub mod Demand3Accepted

@@ -1,0 +1,97 @@
+-- The two words are those of the elements lost. Assumes nothing.
+use mathlib.Core.Path.{_≡_, refl, sym, ap, ap₂, _∙_}
+use mathlib.Core.Bool.{Bool, true, false, cond, _&&_, _||_}
+use mathlib.Core.List.{List}
+use mathlib.Core.Logic.{_⊎_, inl, inr, ⊎-elim}
+use Prim.Native.Nat.{ℕ, _+_, _<_, _≤_}
+use native.Mathlib.Omega.{arith}
+use borrow.Author.Tests.{leb-true, leb-false}
+use lib.Bits.{bitOr}
+use lib.Dec.{leb}
+use lib.ListN.{length, getD, List·getD-eq-default}
+use Rattle.text.specs.Bytes.{every}
+use Rattle.losses.specs.Losses.{word, losses, lossesOf}
+use Rattle.losses.specs.declared.Losses.{Losses}
+use Rattle.losses.proofs.Listed.{same-word, no-word}
+use Rattle.losses.proofs.Ways.{up-to-or-past}
+use Rattle.layout.specs.declared.Edition.{Edition}
+use Rattle.layout.specs.Editions.{lengthOf, lastOf}
+use Rattle.layout.specs.Page.{page, element, columns, startOf, textOf, legalText}
+use Rattle.layout.proofs.Beyond.{text-none}
+use Rattle.layout.proofs.Columns.{start-rises, filled}
+use Rattle.layout.proofs.RecordLaws.{shortest, ends}
+use Rattle.hemispheres.specs.Digits.{isFirst, crosses}
+use Rattle.meanings.specs.Kept.{lostText, lostAt}
+use Rattle.blanking.specs.Columns.{changes, leaves, codesLost, countryLost, versionLost, flagsLost, laterLost, sharedLost, lostIn, named}
+use Rattle.blanking.proofs.Blanked.{or-none}
+use Rattle.blanking.proofs.Steps.{and-none, codes-off, country-off, version-off, flags-off, later-off, in-later}
+use Rattle.blanking.proofs.Lost.{first-lost}
+use Rattle.blanking.proofs.NameLaws.{joined}
+
+-- what is not there is not lost
+later-zero : (first x : Bool) (c : ℕ) → laterLost first x c 0 ≡ false
+unfolding laterLost
+later-zero true x c = rw (and-none _, and-none _)
+later-zero false x c = rw (and-none _, and-none _) (and-none x)
+
+pub last-none : (xs : List ℕ) (first x : Bool) → length xs ≡ 131 → 0 ≡ word (named (laterLost first x) xs) 65 37
+last-none xs first x h = sym (same-word (named (laterLost first x) xs) (λ e. false) 65 37 (λ e l m. by e (up-to-or-past 131 (startOf e))) ∙ no-word 65 37)
+  where
+    by : (e : ℕ) → (131 ≤ startOf e) ⊎ (startOf e < 131) → named (laterLost first x) xs e ≡ false
+    by e (inl l) = ap (laterLost first x (startOf e)) (List·getD-eq-default xs 0 (omega arith)) ∙ later-zero first x (startOf e)
+    by e (inr l) = later-off (startOf e) (getD xs (startOf e) 0) first x l
+
+-- in edition 1 whatever is written is lost, in the others what the step loses
+module _ (to : Edition) (x : Bool) where
+  pub in-none : isFirst to ≡ true → (xs : List ℕ) (v : ℕ) → v ≡ word (named (laterLost true false) xs) 65 37 → v ≡ word (named (laterLost (isFirst to) x) xs) 65 37
+  unfolding laterLost
+  in-none f xs v g = g ∙ same-word _ _ 65 37 (λ e l h. rw f)
+
+  pub in-some : (y : Bool) → isFirst to ≡ false → y ≡ x → (xs : List ℕ) (v : ℕ) → v ≡ word (named (laterLost false y) xs) 65 37 → v ≡ word (named (laterLost (isFirst to) x) xs) 65 37
+  in-some y f e xs v g = g ∙ same-word _ _ 65 37 (λ k l h. rw (f, e))
+
+at-64 : startOf 64 ≡ 109
+unfolding startOf columns element page
+at-64 = refl
+
+at-65 : startOf 65 ≡ 110
+unfolding startOf columns element page
+at-65 = refl
+
+module _ (from to : Edition) (xs : List ℕ) (full : length xs ≡ lengthOf from) (each : (e : ℕ) → 1 ≤ e → e ≤ lastOf from → legalText from e (textOf e xs) ≡ true) where
+  lost-here : (e : ℕ) → 1 ≤ e → e ≤ 101 → lostAt from to xs e ≡ named (lostIn from to) xs e
+  unfolding lostText every
+  lost-here e l h = by (leb e (lastOf from)) refl
+    where
+      by : (x : Bool) → leb e (lastOf from) ≡ x → lostAt from to xs e ≡ named (lostIn from to) xs e
+      by true k = let own = leb-true e (lastOf from) k in first-lost from to xs e l h (omega (arith, ends from e own)) (each e l own)
+      by false k =
+          let past = leb-false e (lastOf from) k in
+          let after : length xs ≤ startOf e = omega (arith, filled from, start-rises (lastOf from + 1) e (omega arith)) in
+          rw (text-none from xs full e past)
+          (sym (in-later (startOf e) (getD xs (startOf e) 0) from to (omega (arith, shortest from)) ∙ ap (laterLost (isFirst to) (leaves from to) (startOf e)) (List·getD-eq-default xs 0 after) ∙ later-zero (isFirst to) (leaves from to) (startOf e)))
+
+  low-word : (codes country version : ℕ) → codes ≡ word (named (codesLost (changes from to)) xs) 1 64 → country ≡ word (named (countryLost (crosses from to)) xs) 1 64 → version ≡ word (named (versionLost (leaves from to)) xs) 1 64 →
+      bitOr (bitOr codes country) version ≡ word (lostAt from to xs) 1 64
+  unfolding lostIn sharedLost
+  low-word codes country version p q r =
+      joined _ _ 1 64 _ _ (joined _ _ 1 64 _ _ p q) r ∙
+      same-word _ (lostAt from to xs) 1 64
+      (λ e l h.
+      let low : startOf e < 111 = omega (arith, at-64, start-rises e 64 (omega arith)) in
+      sym (lost-here e l (omega arith) ∙ rw (flags-off (startOf e) (getD xs (startOf e) 0) (leaves from to) (inl low), later-off (startOf e) (getD xs (startOf e) 0) (isFirst to) (leaves from to) (omega arith)) (or-none _ ∙ or-none _)))
+
+  high-word : (flags last : ℕ) → flags ≡ word (named (flagsLost (leaves from to)) xs) 65 37 → last ≡ word (named (laterLost (isFirst to) (leaves from to)) xs) 65 37 → bitOr flags last ≡ word (lostAt from to xs) 65 37
+  unfolding lostIn sharedLost
+  high-word flags last p q =
+      joined _ _ 65 37 _ _ p q ∙
+      same-word _ (lostAt from to xs) 65 37
+      (λ e l h.
+      let high : 110 ≤ startOf e = omega (arith, at-65, start-rises 65 e l) in
+      sym (lost-here e (omega arith) (omega arith) ∙ rw (codes-off (startOf e) (getD xs (startOf e) 0) (changes from to) (inr (omega arith)), country-off (startOf e) (getD xs (startOf e) 0) (crosses from to) (inr (omega arith)), version-off (startOf e) (getD xs (startOf e) 0) (leaves from to) (inr high))))
+
+  pub all-named : (codes country version flags last : ℕ) → codes ≡ word (named (codesLost (changes from to)) xs) 1 64 → country ≡ word (named (countryLost (crosses from to)) xs) 1 64 →
+      version ≡ word (named (versionLost (leaves from to)) xs) 1 64 → flags ≡ word (named (flagsLost (leaves from to)) xs) 65 37 → last ≡ word (named (laterLost (isFirst to) (leaves from to)) xs) 65 37 →
+      losses (bitOr (bitOr codes country) version) (bitOr flags last) ≡ lossesOf (lostAt from to xs)
+  unfolding lossesOf
+  all-named codes country version flags last p q r s t = ap₂ losses (low-word codes country version p q r) (high-word flags last s t)

@@ -1,0 +1,85 @@
+-- `blanking::blank_run` meets its contract. Assumes nothing.
+use mathlib.Core.Path.{_≡_, refl, ap, _∙_}
+use Prim.Native.Nat.{ℕ, _-_, _≤_}
+use native.Mathlib.Omega.{arith}
+use borrow.Author.Needs.{needs}
+use lib.ListN.{length}
+use Rattle.blanking.specs.Columns.{run, blanked}
+use Rattle.blanking.proofs.Blanked.{blanked-length, one-set, no-run, run-on}
+use Rattle.blanking.proofs.blank_run.Statement.{statement}
+use Rattle.blanking.proofs.blank_run.Tie as tie
+
+abbrev Inv-loop : tie.InvT-loop
+Inv-loop row₀ at low high k₀ row k = (k ≤ 8) × (row ≡ blanked (run at k low high) row₀)
+
+abbrev μ-loop : tie.MeasureT-loop
+μ-loop row₀ at low high k₀ row k = 8 - k
+
+-- the row is as long as it was
+long : (c : tie.In-loop Inv-loop μ-loop) → length (c .before .loop .row) ≡ length (c .before .before .before .args .row .now)
+long c = ap length (c .before .loop .inv .1) ∙ blanked-length _ 0 _
+
+loop-holds : tie.Need-loop-holds Inv-loop μ-loop
+loop-holds c = (omega arith, no-run (c .before .args .low) (c .before .args .high) _ _ 0 refl)
+
+add-b : tie.Need-add-b Inv-loop μ-loop
+add-b c = search needs
+
+slice-read-b : tie.Need-slice-read-b Inv-loop μ-loop
+slice-read-b c = omega (arith, long (c .before))
+
+is-in-requires : tie.Need-is-in-requires Inv-loop μ-loop
+is-in-requires c κs = search needs
+
+left-requires : tie.Need-left-requires Inv-loop μ-loop
+left-requires c κs = search needs
+
+add-row : tie.Need-add-row Inv-loop μ-loop
+add-row c = search needs
+
+slice-write-row : tie.Need-slice-write-row Inv-loop μ-loop
+slice-write-row c = omega (arith, long (c .before .before .before))
+
+add-k : tie.Need-add-k Inv-loop μ-loop
+add-k c = search needs
+
+loop-less : tie.Need-loop-less Inv-loop μ-loop
+loop-less c = search needs
+
+loop-again : tie.Need-loop-again Inv-loop μ-loop
+loop-again c =
+    let turn = c .before .before .before in
+    let loop = turn .before .loop in
+    let start = turn .before .before .before in (
+      omega arith,
+      run-on (start .args .low) (start .args .high) _ _ _ _ _ (loop .inv .1) (one-set (start .args .low) (start .args .high) _ _ (omega (arith, long turn)) _ (c .before .is-in .ensures) _ (c .left .ensures)),
+    )
+
+same-length : tie.Need-same-length Inv-loop μ-loop
+same-length c = ap length (c .before .loop .inv .1) ∙ blanked-length _ 0 _
+
+returns : tie.Need-returns Inv-loop μ-loop
+returns c =
+    let loop = c .before .loop in
+    let args = c .before .before .before .args in
+    let all : loop .k ≡ 8 = omega arith in
+    loop .inv .1 ∙ ap (λ (n : ℕ). blanked (run (args .at) n (args .low) (args .high)) (args .row .now)) all
+
+pub blank-run-spec : {M : Type 1} → statement M
+blank-run-spec =
+    tie.close
+    (tie.spec
+    Inv-loop
+    μ-loop
+    loop-holds
+    add-b
+    slice-read-b
+    is-in-requires
+    left-requires
+    add-row
+    slice-write-row
+    add-k
+    loop-less
+    loop-again
+    same-length
+    returns)

@@ -1,0 +1,178 @@
+// The elements lost, named as a set of bits: element e is bit e - 1 of the first word, or bit e - 65 of
+// the second. The bits come from the bytes of the record, with no test for each element.
+use crate::is_change;
+use crate::is_in;
+use crate::is_leaving;
+use layout::Edition;
+use losses::Losses;
+ghost use mathlib.Core.Bool.{true, false, cond};
+ghost use mathlib.Core.Path.{_≡_};
+ghost use Prim.Native.Nat.{ℕ, _+_, _*_, _^_, _<_, _≤_};
+ghost use lib.ListN.{length, getD};
+ghost use Rattle.text.specs.Bytes.{between};
+ghost use Rattle.losses.specs.Losses.{word, lossesOf};
+ghost use Rattle.layout.specs.Editions.{lengthOf, lastOf};
+ghost use Rattle.layout.specs.Page.{startOf, textOf, legalText};
+ghost use Rattle.hemispheres.specs.Digits.{isFirst};
+ghost use Rattle.meanings.specs.Kept.{lostAt};
+ghost use Rattle.blanking.specs.Columns.{leaves, codesLost, countryLost, versionLost, flagsLost, laterLost, named};
+
+// The bit, where it is lost, and otherwise none.
+fn bit(lost: bool, mask: u8) -> u8
+    ensures { λ r. ⌜ r ≡ cond lost mask 0 ⌝ }
+{
+    if lost { mask } else { 0 }
+}
+
+// The same number, as wide as an index is, and as a word is.
+fn index(b: u8) -> usize
+    ensures { λ r. ⌜ r ≡ b ⌝ }
+{
+    b as usize
+}
+
+fn wide(b: u8) -> u64
+    ensures { λ r. ⌜ r ≡ b ⌝ }
+{
+    b as u64
+}
+
+// Eight bits moved up to their place in a word.
+fn moved(w: u8, by: u64) -> u64
+    requires { ⌜ by ≤ 56 ⌝ }
+    ensures { λ r. ⌜ r ≡ w * 2 ^ by ⌝ }
+{
+    wide(w) << by
+}
+
+// The bit of an element of one column whose byte is one from low to high.
+fn name_column(line: &[u8], at: usize, low: u8, high: u8, mask: u64) -> u64
+    requires { ⌜ (at < length (now line)) × (low ≤ high) ⌝ }
+    ensures { λ r. ⌜ r ≡ cond (between low high (getD (now (line .entry)) at 0)) mask 0 ⌝ }
+{
+    if is_in(line[at], low, high) { mask } else { 0 }
+}
+
+// The bits of eight elements of one column whose bytes are from low to high.
+fn name_run(line: &[u8], at: usize, low: u8, high: u8) -> u8
+    requires { ⌜ (at + 8 ≤ length (now line)) × (low ≤ high) ⌝ }
+    ensures { λ r. ⌜ r ≡ word (λ c. between low high (getD (now (line .entry)) c 0)) at 8 ⌝ }
+{
+    let masks = [1u8, 2, 4, 8, 16, 32, 64, 128];
+    let mut w: u8 = 0;
+    let mut k = 0;
+    while k < 8 {
+        w = w | bit(is_in(line[at + k], low, high), masks[k]);
+        k += 1;
+    }
+    w
+}
+
+// The bits of elements 86 to 93 that are filled, as the first byte of each says.
+fn name_starts(line: &[u8]) -> u8
+    requires { ⌜ 159 ≤ length (now line) ⌝ }
+    ensures { λ r. ⌜ r ≡ word (λ e. between 33 126 (getD (now (line .entry)) (startOf e) 0)) 86 8 ⌝ }
+{
+    let masks = [1u8, 2, 4, 8, 16, 32, 64, 128];
+    let starts = [131u8, 132, 135, 138, 140, 142, 145, 148];
+    let mut w: u8 = 0;
+    let mut k = 0;
+    while k < 8 {
+        w = w | bit(is_in(line[index(starts[k])], 33, 126), masks[k]);
+        k += 1;
+    }
+    w
+}
+
+// Elements 40 and 41.
+fn name_codes(line: &[u8], changed: bool) -> u64
+    requires { ⌜ 131 ≤ length (now line) ⌝ }
+    ensures { λ r. ⌜ r ≡ word (named (codesLost changed) (now (line .entry))) 1 64 ⌝ }
+{
+    if !changed {
+        return 0;
+    }
+    let source = name_column(line, 69, b'1', b'1', 1 << 39) | name_column(line, 69, b'4', b'4', 1 << 39);
+    source | name_column(line, 70, b'4', b'4', 1 << 40) | name_column(line, 70, b'7', b'9', 1 << 40)
+}
+
+// Element 43.
+fn name_country(line: &[u8], crossing: bool) -> u64
+    requires { ⌜ 131 ≤ length (now line) ⌝ }
+    ensures { λ r. ⌜ r ≡ word (named (countryLost crossing) (now (line .entry))) 1 64 ⌝ }
+{
+    if !crossing {
+        return 0;
+    }
+    name_column(line, 78, 33, 126, 1 << 42)
+}
+
+// Element 64.
+fn name_version(line: &[u8], back: bool) -> u64
+    requires { ⌜ 131 ≤ length (now line) ⌝ }
+    ensures { λ r. ⌜ r ≡ word (named (versionLost back) (now (line .entry))) 1 64 ⌝ }
+{
+    if !back {
+        return 0;
+    }
+    name_column(line, 109, b'9', b'9', 1 << 63) | name_column(line, 109, b'A', b'A', 1 << 63)
+}
+
+// Elements 66 to 85.
+fn name_flags(line: &[u8], back: bool) -> u64
+    requires { ⌜ 131 ≤ length (now line) ⌝ }
+    ensures { λ r. ⌜ r ≡ word (named (flagsLost back) (now (line .entry))) 65 37 ⌝ }
+{
+    if !back {
+        return 0;
+    }
+    let first = moved(name_run(line, 111, b'6', b'7'), 1);
+    let second = moved(name_run(line, 119, b'6', b'7'), 9);
+    first | second | moved(name_run(line, 123, b'6', b'7'), 13)
+}
+
+// Elements 86 to 101 in a target that has them.
+fn name_later(line: &[u8], back: bool) -> u64
+    requires { ⌜ 159 ≤ length (now line) ⌝ }
+    ensures { λ r. ⌜ r ≡ word (named (laterLost false back) (now (line .entry))) 65 37 ⌝ }
+{
+    if !back {
+        return 0;
+    }
+    name_column(line, 131, b'6', b'6', 1 << 21) | moved(name_run(line, 151, b'6', b'7'), 29)
+}
+
+// Elements 86 to 101 in a target that does not have them.
+fn name_filled(line: &[u8]) -> u64
+    requires { ⌜ 159 ≤ length (now line) ⌝ }
+    ensures { λ r. ⌜ r ≡ word (named (laterLost true false) (now (line .entry))) 65 37 ⌝ }
+{
+    moved(name_starts(line), 21) | moved(name_run(line, 151, 33, 126), 29)
+}
+
+// Elements 86 to 101, which a record of edition 1 does not have.
+fn name_last(from: Edition, to: Edition, line: &[u8]) -> u64
+    requires { ⌜ length (now line) ≡ lengthOf from ⌝ }
+    ensures { λ r. ⌜ r ≡ word (named (laterLost (isFirst to) (leaves from to)) (now (line .entry))) 65 37 ⌝ }
+{
+    if hemispheres::is_first(from) {
+        return 0;
+    }
+    if hemispheres::is_first(to) {
+        return name_filled(line);
+    }
+    name_later(line, is_leaving(from, to))
+}
+
+// The elements that a recast of the record loses.
+pub fn losses_of(from: Edition, to: Edition, line: &[u8]) -> Losses
+    requires { ⌜ (length (now line) ≡ lengthOf from) × ((e : ℕ) → 1 ≤ e → e ≤ lastOf from → legalText from e (textOf e (now line)) ≡ true) ⌝ }
+    ensures { λ r. ⌜ r ≡ lossesOf (lostAt from to (now (line .entry))) ⌝ }
+{
+    let back = is_leaving(from, to);
+    let codes = name_codes(line, is_change(from, to));
+    let country = name_country(line, hemispheres::is_crossing(from, to));
+    let low = codes | country | name_version(line, back);
+    let high = name_flags(line, back) | name_last(from, to, line);
+    Losses { low: low, high: high }
+}

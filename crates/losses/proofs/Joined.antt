@@ -1,0 +1,50 @@
+-- Words put together: two that are or-ed are the word of either test; a word moved up is the word of the same test among more elements. Assumes nothing.
+use mathlib.Core.Path.{_≡_, refl, sym, ap, ap₂, _∙_}
+use mathlib.Core.Bool.{Bool, true, false, _||_}
+use Prim.Native.Nat.{ℕ, zero, suc, _+_, _-_, _*_, _^_, _<_, _≤_, max}
+use native.Mathlib.Nat.{pow-suc, mul-assoc, add-suc, suc-add, add-zero, zero-add}
+use native.Mathlib.Omega.{arith}
+use lib.Bits.{bitOr, or-step}
+use Rattle.losses.specs.Losses.{bit, word}
+use Rattle.losses.proofs.Words.{half, odd}
+use Rattle.losses.proofs.Listed.{Agree, same-word, no-word}
+
+max-bits : (a b : Bool) → max (bit a) (bit b) ≡ bit (a || b)
+max-bits true true = refl
+max-bits true false = refl
+max-bits false true = refl
+max-bits false false = refl
+
+pub or-words : (f g : ℕ → Bool) (k n : ℕ) → bitOr (word f k n) (word g k n) ≡ word (λ e. f e || g e) k n
+unfolding word
+or-words f g k zero = refl
+or-words f g k (suc n) =
+    or-step (bit (f k) + word f (suc k) n * 2) (bit (g k) + word g (suc k) n * 2) ∙
+    rw (half (f k) (word f (suc k) n), half (g k) (word g (suc k) n), odd (f k) (word f (suc k) n), odd (g k) (word g (suc k) n), or-words f g (suc k) n, max-bits (f k) (g k))
+    (omega arith)
+
+-- tests that agree place by place, from places of their own on
+pub moved-word : (f g : ℕ → Bool) (j k n : ℕ) → ((i : ℕ) → i < n → f (j + i) ≡ g (k + i)) → word f j n ≡ word g k n
+unfolding word
+moved-word f g j k zero a = refl
+moved-word f g j k (suc n) a =
+    ap₂ (λ (b : Bool) (w : ℕ). bit b + w * 2) (rw (add-zero j, add-zero k) at (a 0 (omega arith)))
+    (moved-word f g (suc j) (suc k) n (λ i h. rw (suc-add j i, ← add-suc j i, suc-add k i, ← add-suc k i) (a (suc i) (omega arith))))
+
+-- the first m elements, and then the others
+word-split : (f : ℕ → Bool) (k m n : ℕ) → word f k (m + n) ≡ word f k m + word f (k + m) n * 2 ^ m
+unfolding word
+word-split f k zero n = rw (zero-add, add-zero) (omega arith)
+word-split f k (suc m) n =
+    let rest : word f (suc k) (m + n) ≡ word f (suc k) m + word f (k + suc m) n * 2 ^ m = rw (add-suc, ← suc-add) (word-split f (suc k) m n) in
+    rw (suc-add, pow-suc, ← mul-assoc) (omega (arith, rest))
+
+-- a word of m elements moved up by s places: g passes where f does, and nowhere else
+pub placed-word : (f g : ℕ → Bool) (k s m n : ℕ) → s + m ≤ n → Agree f g (k + s) m → Agree g (λ e. false) k s → Agree g (λ e. false) (k + s + m) (n - (s + m)) →
+    word f (k + s) m * 2 ^ s ≡ word g k n
+placed-word f g k s m n h same below above =
+    let all : n ≡ s + (m + (n - (s + m))) = omega arith in
+    let low : word g k s ≡ 0 = same-word g (λ e. false) k s below ∙ no-word k s in
+    let high : word g (k + s + m) (n - (s + m)) ≡ 0 = same-word g (λ e. false) (k + s + m) (n - (s + m)) above ∙ no-word (k + s + m) (n - (s + m)) in
+    let own : word g (k + s) (m + (n - (s + m))) ≡ word f (k + s) m = word-split g (k + s) m (n - (s + m)) ∙ rw high (omega (arith, same-word f g (k + s) m same)) in
+    sym (ap (word g k) all ∙ word-split g k s (m + (n - (s + m))) ∙ rw (low, own) (omega arith))

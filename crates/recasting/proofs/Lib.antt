@@ -1,7 +1,7 @@
 -- The laws that the functions of this crate cite, and the promises of demand 3.
-pub mod BlankLaws
 pub mod PlaceLaws
 pub mod WidenLaws
+pub mod FillLaws
 pub mod MakeLaws
 pub mod RecastLaws
 pub mod ResultLaws

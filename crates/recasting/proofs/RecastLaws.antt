@@ -1,31 +1,33 @@
 -- What each way through `recast` says of the outcome and of the lent buffer. Assumes nothing.
 use mathlib.Core.Path.{_≡_, refl, sym, ap, _∙_}
+use mathlib.Core.Bool.{true}
 use mathlib.Core.List.{List, _++_}
 use Prim.Native.Nat.{ℕ, _<_, _≤_}
 use native.Mathlib.Omega.{arith}
 use borrow.Author.Tests.{eq-eqb, ne-eqb, le-leb, lt-leb}
-use lib.ListN.{length, take, drop}
-use lib.Seq.{take-length}
-use Rattle.text.proofs.Parts.{front-length}
+use lib.ListN.{length, drop}
 use Rattle.losses.specs.Losses.{lossesOf}
 use Rattle.losses.specs.declared.Losses.{Losses}
 use Rattle.layout.specs.declared.Edition.{Edition}
 use Rattle.layout.specs.declared.Named.{Named}
 use Rattle.layout.specs.declared.Refusal.the-variants.{Room, NoDigit}
-use Rattle.layout.specs.Editions.{lengthOf}
-use Rattle.layout.specs.Records.{recordFrom}
-use Rattle.layout.proofs.RecordLaws.{most, shortest, row-length}
+use Rattle.layout.specs.Editions.{lengthOf, lastOf}
+use Rattle.layout.specs.Page.{textOf, legalText, legal}
+use Rattle.layout.proofs.RecordLaws.{shortest}
 use Rattle.checking.specs.declared.Answer.{Answer}
 use Rattle.checking.specs.declared.Answer.the-variants.{Accepted}
 use Rattle.checking.specs.Check.{checked}
 use Rattle.checking.proofs.Demand2Acceptance.{accepted-exactly}
 use Rattle.recasting.specs.declared.Outcome.the-variants.{Done, Unrecast}
 use Rattle.meanings.specs.Kept.{lostAt}
-use Rattle.recasting.specs.Recast.{hemisphere, recastText, recastRow, recastRecord, recastIn, recastTo, recastAfter, filledBy, leftTo, leftAfter}
-use Rattle.recasting.proofs.MakeLaws.{recast-wide}
+use Rattle.recasting.specs.Recast.{hemisphere, recastRecord, recastIn, recastTo, recastAfter, filledBy, leftTo, leftAfter}
 
 pub accepted-long : (from : Edition) (xs : List ℕ) → checked xs ≡ Accepted from → 131 ≤ length xs
 accepted-long from xs ok = omega (arith, accepted-exactly xs from .0 ok .full, shortest from)
+
+pub own-texts : (from : Edition) (xs : List ℕ) → checked xs ≡ Accepted from → (length xs ≡ lengthOf from) × ((e : ℕ) → 1 ≤ e → e ≤ lastOf from → legalText from e (textOf e xs) ≡ true)
+unfolding legal
+own-texts from xs ok = let a = accepted-exactly xs from .0 ok in (a .full, a .lawful)
 
 -- the outcome, by the first test that fails, and what it leaves
 module _ (from to : Edition) (xs : List ℕ) (b : ℕ) (f : b ≡ hemisphere from to xs) (before : List ℕ) where
@@ -38,30 +40,14 @@ module _ (from to : Edition) (xs : List ℕ) (b : ℕ) (f : b ≡ hemisphere fro
     unfolding recastIn filledBy
     no-room h = (rw (← f, ne-eqb b 0 some, lt-leb (lengthOf to) (length before) (omega arith)), refl)
 
-    -- the front of the row is the record
-    module _ (row : List ℕ) (is : row ≡ recastRow from to xs) (ok : checked xs ≡ Accepted from) where
-      row-long : length row ≡ 159
-      unfolding recastRow
-      row-long = ap length is ∙ row-length (recastText from to xs) (recast-wide from to xs (accepted-exactly xs from .0 ok .full))
-
-      pub within-row : n ≤ length row
-      within-row = omega (arith, row-long, most to)
-
-      pub front-long : n ≡ length (take n row)
-      front-long = front-length n row within-row
-
-      is-record : take n row ≡ recastRecord from to xs
-      unfolding recastRow recastRecord recordFrom
-      is-record = ap (take n) is ∙ ap (λ (k : ℕ). take k (recastRow from to xs)) g
-
-      pub done : n ≤ length before → (losses : Losses) → losses ≡ lossesOf (lostAt from to xs) → (after : List ℕ) →
-          after ≡ take (length (take n row)) (take n row) ++ drop (length (take n row)) before →
-          (Done losses ≡ recastIn from to xs (length before)) × (after ≡ filledBy from to xs (Done losses) before)
-      unfolding recastIn filledBy
-      done h losses k after l = (
-        ap Done k ∙ rw (← f, ne-eqb b 0 some, le-leb (lengthOf to) (length before) (omega arith)),
-        l ∙ ap (λ (t : List ℕ). t ++ drop (length (take n row)) before) (take-length (take n row) ∙ is-record) ∙ ap (λ (k : ℕ). recastRecord from to xs ++ drop k before) (sym front-long ∙ g),
-      )
+    -- the record in front of what stood behind it
+    pub done : n ≤ length before → (losses : Losses) → losses ≡ lossesOf (lostAt from to xs) → (row : List ℕ) → row ≡ recastRecord from to xs →
+        (Done losses ≡ recastIn from to xs (length before)) × (row ++ drop n before ≡ filledBy from to xs (Done losses) before)
+    unfolding recastIn filledBy
+    done h losses k row l = (
+      ap Done k ∙ rw (← f, ne-eqb b 0 some, le-leb (lengthOf to) (length before) (omega arith)),
+      ap (λ (t : List ℕ). t ++ drop n before) l ∙ ap (λ (k : ℕ). recastRecord from to xs ++ drop k before) g,
+    )
 
 -- the edition, or the answer, that an arm was taken at
 pub at-name : {m n : Named} (from : Edition) (xs : List ℕ) (room : ℕ) → m ≡ n → recastTo from n xs room ≡ recastTo from m xs room

@@ -7,6 +7,7 @@ use borrow.Author.Tests.{leb-true, leb-false}
 use lib.Dec.{eqb, leb}
 use lib.ListN.{length}
 use Rattle.text.specs.Bytes.{every, blank}
+use Rattle.numerals.proofs.Spellings.{blanks-blank}
 use Rattle.layout.specs.declared.Edition.{Edition}
 use Rattle.layout.specs.Editions.{lengthOf, lastOf}
 use Rattle.layout.specs.Page.{element, widthOf, textOf}
@@ -15,7 +16,7 @@ use Rattle.layout.proofs.RecordLaws.{record-long, record-text}
 use Rattle.checking.specs.Acceptable.{Acceptable}
 use Rattle.meanings.specs.Kept.{lostAt}
 use Rattle.recasting.specs.Recast.{widened, recastText, recastRecord}
-use Rattle.recasting.proofs.WidenLaws.{blanks-blank, own-kept, others-blank}
+use Rattle.recasting.proofs.WidenLaws.{own-kept, others-blank}
 use Rattle.recasting.proofs.MakeLaws.{recast-wide}
 
 -- columns 12 and 111 have rules of their own

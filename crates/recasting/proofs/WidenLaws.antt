@@ -11,7 +11,7 @@ use lib.Seq.{take-length, take-at, drop-append-add}
 use Rattle.text.specs.Bytes.{every, between, blank}
 use Rattle.text.proofs.Ways.{and-first, and-second}
 use Rattle.numerals.specs.Spelling.{spelled}
-use Rattle.numerals.proofs.Spellings.{spelled-length}
+use Rattle.numerals.proofs.Spellings.{spelled-length, blanks-blank}
 use Rattle.losses.specs.Losses.{lossesOf}
 use Rattle.losses.proofs.Demand3Losses.{same-losses}
 use Rattle.layout.specs.declared.Edition.{Edition}
@@ -25,16 +25,7 @@ use Rattle.checking.specs.Acceptable.{Acceptable}
 use Rattle.meanings.specs.Kept.{lostText, lostAt}
 use Rattle.recasting.specs.Recast.{blanks, widened}
 
--- blanks are blank, and so is a part of them
-pub blanks-blank : (n : ℕ) → blank (blanks n) ≡ true
-unfolding spelled every
-blanks-blank zero = refl
-blanks-blank (suc n) = every-end (spelled 1 32 n 0) (blanks-blank n)
-  where
-    every-end : (t : List ℕ) → blank t ≡ true → blank (t ++ 32 ∷ []) ≡ true
-    every-end [] e = refl
-    every-end (b ∷ t) e = let h : between 32 32 b ≡ true = and-first _ _ e in rw h (every-end t (and-second (between 32 32 b) _ e))
-
+-- a part of what passes a test
 every-drop : (p : ℕ → Bool) (n : ℕ) (t : List ℕ) → every p t ≡ true → every p (drop n t) ≡ true
 unfolding every
 every-drop p zero t e = e
@@ -49,19 +40,6 @@ every-take p (suc n) (b ∷ t) e = let h : p b ≡ true = and-first _ _ e in rw 
 
 pub blanks-long : (n : ℕ) → length (blanks n) ≡ n
 blanks-long n = spelled-length 1 32 n 0
-
-rest-blank : (ed : Edition) → drop (lengthOf ed) (blanks 159) ≡ blanks (159 - lengthOf ed)
-unfolding spelled
-rest-blank One = refl
-rest-blank Three = refl
-rest-blank Four = refl
-
--- a copy of the record in front of blanks
-pub copied : (ed : Edition) (xs row after : List ℕ) → length xs ≡ lengthOf ed → row ≡ blanks 159 → after ≡ take (length xs) xs ++ drop (length xs) row → after ≡ widened xs
-unfolding widened
-copied ed xs row after f g h =
-    h ∙ ap (λ (t : List ℕ). t ++ drop (length xs) row) (take-length xs) ∙ ap (λ (t : List ℕ). xs ++ drop (length xs) t) g ∙
-    ap (λ (n : ℕ). xs ++ drop n (blanks 159)) f ∙ ap (λ (t : List ℕ). xs ++ t) (rest-blank ed) ∙ ap (λ (n : ℕ). xs ++ blanks (159 - n)) (sym f)
 
 module _ (ed : Edition) (xs : List ℕ) (full : length xs ≡ lengthOf ed) where
   pub widened-long : length (widened xs) ≡ 159
@@ -95,9 +73,6 @@ module _ (ed : Edition) (xs : List ℕ) (full : length xs ≡ lengthOf ed) where
       by : (x : Bool) → leb e (lastOf ed) ≡ x → lostAt ed to (widened xs) e ≡ lostAt ed to xs e
       by true h = ap (lostText ed to e) (own-kept e (leb-true _ _ h))
       by false h = rw (others-blank e (leb-false _ _ h), text-none ed xs full e (leb-false _ _ h))
-
-  pub same-names : (to : Edition) → lossesOf (lostAt ed to (widened xs)) ≡ lossesOf (lostAt ed to xs)
-  same-names to = same-losses (lostAt ed to (widened xs)) (lostAt ed to xs) (λ e h l. same-lost to e)
 
 -- every element of a record with blanks is legal
 pub all-legal : (ed : Edition) (xs : List ℕ) → Acceptable ed xs → (e : ℕ) → 1 ≤ e → e ≤ 101 → legalText ed e (textOf e (widened xs)) ≡ true

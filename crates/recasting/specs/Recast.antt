@@ -14,7 +14,7 @@ use Rattle.layout.specs.declared.Named.the-variants.{Known, Unknown}
 use Rattle.layout.specs.declared.Refusal.the-variants.{Unheld, Room, NoDigit}
 use Rattle.layout.specs.Editions.{asked, editionNumber, lengthOf}
 use Rattle.layout.specs.Page.{widthOf, textOf}
-use Rattle.layout.specs.Records.{rowFrom, recordFrom}
+use Rattle.layout.specs.Records.{recordFrom}
 use Rattle.layout.specs.Refusals.{numberOf, placeOf}
 use Rattle.ties.specs.Ties.{there}
 use Rattle.checking.specs.declared.Answer.{Answer}
@@ -52,16 +52,6 @@ recastText from to xs e =
 
 unfoldable pub recastRecord : Edition → Edition → List ℕ → List ℕ
 recastRecord from to xs = recordFrom to (recastText from to xs)
-
--- on the way there: the columns of all 101 elements, and those in which the elements lost are blank and nothing else has changed
-unfoldable pub recastRow : Edition → Edition → List ℕ → List ℕ
-recastRow from to xs = rowFrom (recastText from to xs) 1 101
-
-unfoldable pub blankedText : Edition → Edition → List ℕ → ℕ → List ℕ
-blankedText from to xs e = cond (lostAt from to xs e) (blanks (widthOf e)) (textOf e xs)
-
-unfoldable pub blankedRow : Edition → Edition → List ℕ → ℕ → ℕ → List ℕ
-blankedRow from to xs e n = rowFrom (blankedText from to xs) e n
 
 -- 10: no digit; 9: room
 unfoldable pub recastIn : Edition → Edition → List ℕ → ℕ → Outcome

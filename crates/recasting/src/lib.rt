@@ -1,25 +1,21 @@
 // Recasting a record to another edition.
 //
-// All editions share columns, so the record is copied, the elements that the target has no text for
-// are blanked and named, and columns 12 and 111 are set by rules of their own. `recastOf` of
-// specs/Recast.antt says what is answered; what an element means is the business of `meanings`.
+// All editions share columns, so the record is copied into the lent buffer, the elements that the target
+// has no text for are blanked there and named, and columns 12 and 111 are set by rules of their own.
+// `recastOf` of specs/Recast.antt says what is answered; what is lost is the business of `blanking`.
+use blanking::names;
 use checking::Answer;
 use layout::Edition;
 use layout::Named;
 use layout::Refusal;
 use layout::page;
 use losses::Losses;
-ghost use mathlib.Core.Bool.{true, cond};
 ghost use mathlib.Core.Path.{_≡_};
-ghost use Prim.Native.Nat.{ℕ, _+_, _≤_};
-ghost use lib.ListN.{length};
-ghost use Rattle.losses.specs.Losses.{withLoss, lossesOf};
-ghost use Rattle.numerals.specs.Spelling.{placed};
-ghost use Rattle.layout.specs.Editions.{asked};
-ghost use Rattle.layout.specs.Page.{textOf, legalText};
+ghost use Prim.Native.Nat.{_≤_};
+ghost use lib.ListN.{length, take, drop};
+ghost use Rattle.layout.specs.Editions.{asked, lengthOf};
 ghost use Rattle.checking.specs.Check.{checked};
-ghost use Rattle.meanings.specs.Kept.{lostAt};
-ghost use Rattle.recasting.specs.Recast.{hemisphere, digitOf, blanks, blankedRow, recastRow, recastIn, filledBy, recastTo, leftTo, recastOf, leftOf, outcomeNumber, outcomePlace, outcomeLosses};
+ghost use Rattle.recasting.specs.Recast.{hemisphere, digitOf, widened, recastRecord, recastIn, filledBy, recastTo, leftTo, recastOf, leftOf, outcomeNumber, outcomePlace, outcomeLosses};
 
 // What recasting a record answers.
 pub enum Outcome {
@@ -59,49 +55,6 @@ impl Outcome {
     }
 }
 
-// Where element e is lost, blanks its columns and names it.
-fn blank_one(
-    lost: bool,
-    row: &mut [u8],
-    at: usize,
-    width: usize,
-    losses: Losses,
-    e: usize,
-) -> Losses
-    requires { ⌜ at + width ≤ length (now row) ⌝ }
-    ensures { λ r. ⌜ now (row .exit) ≡ cond lost (placed at (blanks width) (now (row .entry))) (now (row .entry)) ⌝ }
-    ensures { λ r. ⌜ r ≡ cond lost (withLoss losses e) losses ⌝ }
-{
-    if !lost {
-        return losses;
-    }
-    numerals::blank(row, at, width);
-    losses.with(e)
-}
-
-// Blanks the elements that are lost, and names them. The editions differ from column 70 on, where
-// element 40 stands, and in column 12, which is never lost.
-fn blank_lost(from: Edition, to: Edition, row: &mut [u8]) -> Losses
-    requires { ⌜ (length (now row) ≡ 159) × ((e : ℕ) → 1 ≤ e → e ≤ 101 → legalText from e (textOf e (now row)) ≡ true) ⌝ }
-    ensures { λ r. ⌜ now (row .exit) ≡ blankedRow from to (now (row .entry)) 1 101 ⌝ }
-    ensures { λ r. ⌜ r ≡ lossesOf (lostAt from to (now (row .entry))) ⌝ }
-{
-    let widths = page::widths();
-    let letters = page::letters_in(from);
-    let targets = page::letters_in(to);
-    let mut losses = Losses::none();
-    let mut at = 69;
-    let mut e = 40;
-    while e <= 101 {
-        let width = page::digit(widths[e]);
-        let lost = meanings::is_lost(from, to, e, letters[e], targets[e], &row[at..at + width]);
-        losses = blank_one(lost, row, at, width, losses, e);
-        at += width;
-        e += 1;
-    }
-    losses
-}
-
 // Column 12 in the target.
 fn hemisphere_of(from: Edition, to: Edition, line: &[u8]) -> u8
     requires { ⌜ 131 ≤ length (now line) ⌝ }
@@ -132,21 +85,47 @@ fn digit_of(edition: Edition) -> u8
     (48 + edition.number()) as u8
 }
 
-// Makes the recast record in a row of our own, and names the elements lost.
-fn make(from: Edition, to: Edition, line: &[u8], digit: u8, row: &mut [u8]) -> Losses
-    requires { ⌜ (checked (now line) ≡ Answer.Accepted from) × (now row ≡ blanks 159) ⌝ }
-    requires { ⌜ digit ≡ hemisphere from to (now line) ⌝ }
-    ensures { λ r. ⌜ now (row .exit) ≡ recastRow from to (now (line .entry)) ⌝ }
-    ensures { λ r. ⌜ r ≡ lossesOf (lostAt from to (now (line .entry))) ⌝ }
+// Fills the columns that edition 1 does not have: from the record, or with blanks where it is of edition 1.
+fn fill_rest(from: Edition, line: &[u8], rest: &mut [u8])
+    requires { ⌜ (length (now line) ≡ lengthOf from) × (length (now rest) ≡ 28) ⌝ }
+    ensures { λ _. ⌜ now (rest .exit) ≡ drop 131 (widened (now (line .entry))) ⌝ }
 {
-    bytes::copy(line, row);
-    let losses = blank_lost(from, to, row);
-    row[11] = digit;
-    row[110] = digit_of(to);
-    losses
+    if hemispheres::is_first(from) {
+        let blanks = [32u8; 28];
+        bytes::copy(&blanks, rest);
+        return;
+    }
+    bytes::copy(&line[131..159], rest);
 }
 
-// Recasts an accepted record to an edition that is held.
+// Copies the record into a row of the target's length. The lengths stand in the code, so that the
+// compiler knows them.
+fn fill(from: Edition, to: Edition, line: &[u8], row: &mut [u8])
+    requires { ⌜ (length (now line) ≡ lengthOf from) × (length (now row) ≡ lengthOf to) ⌝ }
+    ensures { λ _. ⌜ now (row .exit) ≡ take (lengthOf to) (widened (now (line .entry))) ⌝ }
+{
+    bytes::copy(&line[..131], row);
+    if hemispheres::is_first(to) {
+        return;
+    }
+    let rest = &mut row[131..];
+    fill_rest(from, line, rest);
+}
+
+// Makes the recast record in a row of the target's length.
+fn make(from: Edition, to: Edition, line: &[u8], digit: u8, row: &mut [u8])
+    requires { ⌜ (checked (now line) ≡ Answer.Accepted from) × (length (now row) ≡ lengthOf to) ⌝ }
+    requires { ⌜ digit ≡ hemisphere from to (now line) ⌝ }
+    ensures { λ _. ⌜ now (row .exit) ≡ recastRecord from to (now (line .entry)) ⌝ }
+{
+    fill(from, to, line, row);
+    blanking::blank_lost(from, to, row);
+    row[11] = digit;
+    row[110] = digit_of(to);
+}
+
+// Recasts an accepted record to an edition that is held, straight into the lent buffer: no byte of it is
+// written before every refusal was asked.
 fn recast_in(from: Edition, to: Edition, line: &[u8], buffer: &mut [u8]) -> Outcome
     requires { ⌜ checked (now line) ≡ Answer.Accepted from ⌝ }
     ensures { λ r. ⌜ r ≡ recastIn from to (now (line .entry)) (length (now (buffer .entry))) ⌝ }
@@ -160,10 +139,9 @@ fn recast_in(from: Edition, to: Edition, line: &[u8], buffer: &mut [u8]) -> Outc
     if buffer.len() < length {
         return Outcome::Unrecast(Refusal::Room);
     }
-    let mut row = [32u8; 159];
-    let losses = make(from, to, line, digit, &mut row);
-    bytes::copy(&row[..length], buffer);
-    Outcome::Done(losses)
+    let row = &mut buffer[..length];
+    make(from, to, line, digit, row);
+    Outcome::Done(names::losses_of(from, to, line))
 }
 
 // Recasts an accepted record to the edition that is asked for.

@@ -1,46 +1,69 @@
 -- `recasting::make` meets its contract. Assumes nothing.
-use Rattle.recasting.proofs.MakeLaws.{fits-row, prepared, after-long, as-recast, names, set-long}
-use Rattle.recasting.proofs.WidenLaws.{blanks-long}
 use borrow.Author.Needs.{needs}
-use lib.ListN.{length, length-set}
-use mathlib.Core.Path.{_≡_, _∙_, sym, ap}
+use mathlib.Core.Path.{_≡_, sym, _∙_}
 use native.Mathlib.Omega.{arith}
+use borrow.Author.Needs.{needs}
+use lib.ListN.{length, set, length-set}
+use Rattle.layout.specs.Editions.{lengthOf}
+use Rattle.layout.proofs.RecordLaws.{shortest}
+use Rattle.recasting.proofs.MakeLaws.{acceptable, prepared, after-long, as-recast}
 use Rattle.recasting.proofs.make.Statement.{statement}
 use Rattle.recasting.proofs.make.Tie as tie
 
-copy-requires : tie.Need-copy-requires
-copy-requires c κs = fits-row _ (c .before .before .before .args .to) _ _ (c .before .before .before .pre .0 .0) (c .before .before .before .pre .0 .1)
+fill-requires : tie.Need-fill-requires
+fill-requires c κs =
+    let start = c .before .before .before in
+    (acceptable (start .args .from) (start .args .to) (start .args .line .now) (start .pre .0 .0) .full, start .pre .0 .1)
 
 blank-lost-requires : tie.Need-blank-lost-requires
-blank-lost-requires c κs = prepared _ (c .before .before .before .before .before .before .before .args .to) _ _ (c .before .before .before .before .before .before .before .pre .0 .0) (c .before .before .before .before .before .before .before .pre .0 .1) _ (c .before .before .before .copy .ensures .1)
+blank-lost-requires c κs =
+    let fill = c .before .before .before in
+    let start = fill .before .before .before .before in
+    prepared (start .args .from) (start .args .to) (start .args .line .now) (start .pre .0 .0) _ (fill .fill .ensures)
 
--- the row is as long as it was
-long : (c : tie.After-slice-known3) → length (c .before .before .blank-lost .last .1 .1 .0) ≡ 159
-long c = after-long _ _ _ _ (c .before .before .before .before .before .before .before .before .before .before .pre .0 .0) (c .before .before .before .before .before .before .before .before .before .before .pre .0 .1) _ (c .before .before .before .before .before .before .copy .ensures .1) _ (c .before .before .blank-lost .ensures .0)
+-- the row has the target's length
+long : (c : tie.After-slice-known3) → length (c .before .before .blank-lost .last .1 .1 .0) ≡ lengthOf (c .before .before .before .before .before .before .before .before .before .before .args .to)
+long c =
+    let blank = c .before .before in
+    let fill = blank .before .before .before .before in
+    let start = fill .before .before .before .before in
+    after-long (start .args .from) (start .args .to) (start .args .line .now) (start .pre .0 .0) _ (fill .fill .ensures) _ (blank .blank-lost .kept .1 .1 .0) (blank .blank-lost .ensures)
 
 slice-write-row : tie.Need-slice-write-row
-slice-write-row c = omega (arith, long c)
+slice-write-row c =
+    let fill = c .before .before .before .before .before .before in
+    omega (arith, long c, shortest (fill .before .before .before .before .args .to))
 
 digit-of-requires : tie.Need-digit-of-requires
 digit-of-requires c κs = search needs
 
 slice-write-row-2 : tie.Need-slice-write-row-2
-slice-write-row-2 c = omega (arith, long (c .before), length-set (c .before .before .before .blank-lost .last .1 .1 .0) 11 (c .before .before .before .before .before .before .before .before .before .before .before .args .digit))
+slice-write-row-2 c =
+    let blank = c .before .before .before in
+    let fill = blank .before .before .before .before in
+    let start = fill .before .before .before .before in
+    omega (arith, long (c .before), length-set (blank .blank-lost .last .1 .1 .0) 11 (start .args .digit), shortest (start .args .to))
 
 same-length : tie.Need-same-length
-same-length c = set-long (c .before .before .before .blank-lost .last .1 .1 .0) _ _ (long (c .before)) ∙ sym (ap length (c .before .before .before .before .before .before .before .before .before .before .before .pre .0 .1) ∙ blanks-long 159)
+same-length c =
+    let blank = c .before .before .before in
+    let fill = blank .before .before .before .before in
+    let start = fill .before .before .before .before in
+    let row = blank .blank-lost .last .1 .1 .0 in
+    length-set (set row 11 (start .args .digit)) 110 (c .digit-of .result) ∙ length-set row 11 (start .args .digit) ∙ long (c .before) ∙ sym (start .pre .0 .1)
 
 returns : tie.Need-returns
-returns c = (
-  as-recast _ _ _ _ (c .before .before .before .before .before .before .before .before .before .before .before .pre .0 .0) (c .before .before .before .before .before .before .before .before .before .before .before .pre .0 .1) _ (c .before .before .before .before .before .before .before .copy .ensures .1) _ (c .before .before .before .blank-lost .ensures .0) _ _ (c .before .before .before .before .before .before .before .before .before .before .before .pre .1) (c .digit-of .ensures),
-  names _ _ _ _ (c .before .before .before .before .before .before .before .before .before .before .before .pre .0 .0) (c .before .before .before .before .before .before .before .before .before .before .before .pre .0 .1) _ (c .before .before .before .before .before .before .before .copy .ensures .1) _ (c .before .before .before .blank-lost .ensures .0) _ (c .before .before .before .blank-lost .ensures .1),
-)
+returns c =
+    let blank = c .before .before .before in
+    let fill = blank .before .before .before .before in
+    let start = fill .before .before .before .before in
+    as-recast (start .args .from) (start .args .to) (start .args .line .now) (start .pre .0 .0) _ (fill .fill .ensures) _ (blank .blank-lost .kept .1 .1 .0) (blank .blank-lost .ensures) _ _ (start .pre .1) (c .digit-of .ensures)
 
 pub make-spec : {M : Type 1} → statement M
 make-spec =
     tie.close
     (tie.spec
-    copy-requires
+    fill-requires
     blank-lost-requires
     slice-write-row
     digit-of-requires

@@ -1,9 +1,8 @@
 -- `recasting::recast_in` meets its contract. Assumes nothing.
-use Rattle.numerals.specs.Spelling.{spelled}
-use Rattle.recasting.proofs.RecastLaws.{accepted-long, no-digit, no-room, within-row, front-long, done}
 use borrow.Author.Needs.{needs}
-use mathlib.Core.Path.{refl}
-use native.Mathlib.Omega.{arith}
+use mathlib.Core.Path.{sym, _∙_}
+use Rattle.text.proofs.Parts.{front-length}
+use Rattle.recasting.proofs.RecastLaws.{accepted-long, own-texts, no-digit, no-room, done}
 use Rattle.recasting.proofs.recast_in.Statement.{statement}
 use Rattle.recasting.proofs.recast_in.Tie as tie
 
@@ -19,27 +18,34 @@ length-requires c κs = search needs
 returns-2 : tie.Need-returns-2
 returns-2 c = no-room _ _ _ _ (c .before .before .before .hemisphere-of .ensures) _ (c .before .before .if1 .left) _ (c .before .length .ensures) (c .if2 .taken)
 
-slice-aggregate-make : tie.Need-slice-aggregate-make
-slice-aggregate-make c = search needs
+slice-relend-prefix-row : tie.Need-slice-relend-prefix-row
+slice-relend-prefix-row c = search needs
+
+slice-aggregate-row : tie.Need-slice-aggregate-row
+slice-aggregate-row c = front-length (c .before .before .length .result) _ (c .before .if2 .left)
 
 make-requires : tie.Need-make-requires
-unfolding spelled
-make-requires c κs = ((c .before .before .before .before .before .before .before .pre, refl), c .before .before .before .before .hemisphere-of .ensures)
+make-requires c κs =
+    let length = c .before .before in
+    let digit = length .before .before in
+    let start = digit .before .before .before in
+    ((start .pre, sym (front-length (length .length .result) (start .args .buffer .now) (c .before .if2 .left)) ∙ length .length .ensures), digit .hemisphere-of .ensures)
 
-array-share-prefix-row : tie.Need-array-share-prefix-row
-array-share-prefix-row c = within-row _ _ _ _ (c .before .before .before .before .before .before .hemisphere-of .ensures) (c .before .before .before .before .before .before .before .before .before .args .buffer .now) (c .before .before .before .before .before .if1 .left) _ (c .before .before .before .before .length .ensures) _ (c .before .make .ensures .0) (c .before .before .before .before .before .before .before .before .before .pre)
-
-slice-aggregate-copy : tie.Need-slice-aggregate-copy
-slice-aggregate-copy c = front-long _ _ _ _ (c .before .before .before .before .before .before .before .hemisphere-of .ensures) (c .before .before .before .before .before .before .before .before .before .before .args .buffer .now) (c .before .before .before .before .before .before .if1 .left) _ (c .before .before .before .before .before .length .ensures) _ (c .before .before .make .ensures .0) (c .before .before .before .before .before .before .before .before .before .before .pre)
-
-copy-requires : tie.Need-copy-requires
-copy-requires c κs = omega (arith, front-long _ _ _ _ (c .before .before .before .before .before .before .before .before .hemisphere-of .ensures) (c .before .before .before .before .before .before .before .before .before .before .before .args .buffer .now) (c .before .before .before .before .before .before .before .if1 .left) _ (c .before .before .before .before .before .before .length .ensures) _ (c .before .before .before .make .ensures .0) (c .before .before .before .before .before .before .before .before .before .before .before .pre), c .before .before .before .before .before .if2 .left)
+losses-of-requires : tie.Need-losses-of-requires
+losses-of-requires c κs =
+    let start = c .before .before .before .before .before .before .before .before .before .before in
+    own-texts _ _ (start .pre)
 
 same-length : tie.Need-same-length
 same-length c = search needs
 
 returns-3 : tie.Need-returns-3
-returns-3 c = done _ _ _ _ (c .before .before .before .before .before .before .before .before .before .before .before .hemisphere-of .ensures) _ (c .before .before .before .before .before .before .before .before .before .before .if1 .left) _ (c .before .before .before .before .before .before .before .before .before .length .ensures) _ (c .before .before .before .before .before .before .make .ensures .0) (c .before .before .before .before .before .before .before .before .before .before .before .before .before .before .pre) (c .before .before .before .before .before .before .before .before .if2 .left) _ (c .before .before .before .before .before .before .make .ensures .1) _ (c .before .before .copy .ensures .1)
+returns-3 c =
+    let make = c .before .before .before in
+    let room = make .before .before in
+    let length = room .before in
+    let digit = length .before .before in
+    done _ _ _ _ (digit .hemisphere-of .ensures) _ (length .before .if1 .left) _ (length .length .ensures) (room .if2 .left) _ (c .losses-of .ensures) _ (make .make .ensures)
 
 pub recast-in-spec : {M : Type 1} → statement M
 recast-in-spec =
@@ -49,10 +55,9 @@ recast-in-spec =
     returns
     length-requires
     returns-2
-    slice-aggregate-make
+    slice-relend-prefix-row
+    slice-aggregate-row
     make-requires
-    array-share-prefix-row
-    slice-aggregate-copy
-    copy-requires
+    losses-of-requires
     same-length
     returns-3)

@@ -3,11 +3,13 @@
 // A digit of column 12 gives two hemispheres, and in edition 1 a range of longitudes with them. Between
 // edition 1 and the others the lowest digit is taken that gives the same place and keeps tie 2.
 use layout::Edition;
+ghost use mathlib.Core.Bool.{true};
 ghost use mathlib.Core.Path.{_≡_};
 ghost use Prim.Native.Nat.{_≤_, _-_};
 ghost use Rattle.signs.specs.Signed.{signed};
 ghost use Rattle.reading.specs.Readings.{};
 ghost use Rattle.hemispheres.specs.Digits.{sameSigned, samePlace, keepsTie, mayStand, suits, lowestDigit, isFirst, crosses};
+ghost use Rattle.hemispheres.specs.Plain.{Plain, quadrantOf, nearOctant, farOctant, octantOf, digitIn};
 
 // May the digit stand in column 12 of the edition?
 fn may_stand(edition: Edition, digit: u32) -> bool
@@ -74,8 +76,8 @@ fn is_suited(from: Edition, to: Edition, d: u32, latitude: u32, longitude: u32, 
 }
 
 // The lowest digit of the edition `to` that gives the place of digit d and keeps tie 2, as a character;
-// 0 where there is none.
-pub fn lowest_digit(from: Edition, to: Edition, d: u32, latitude: u32, longitude: u32) -> u8
+// 0 where there is none. It tries one after the other.
+fn lowest_digit(from: Edition, to: Edition, d: u32, latitude: u32, longitude: u32) -> u8
     ensures { λ r. ⌜ r ≡ lowestDigit from to d latitude longitude ⌝ }
 {
     let mut b = 48;
@@ -94,6 +96,87 @@ fn digit_of(b: u8) -> u32
     ensures { λ r. ⌜ r ≡ b - 48 ⌝ }
 {
     (b - 48) as u32
+}
+
+// Is the place off the equator and off the meridians of 0, 90 and 180 degrees?
+fn is_plain(latitude: u32, longitude: u32) -> bool
+    ensures { λ r. ⌜ (r ≡ true → Plain latitude longitude) ⌝ }
+{
+    if latitude == 0 {
+        return false;
+    }
+    if longitude == 0 {
+        return false;
+    }
+    if longitude == 900 {
+        return false;
+    }
+    longitude < 1800
+}
+
+// The quadrant of two hemispheres.
+fn quadrant_of(south: bool, west: bool) -> u8
+    ensures { λ r. ⌜ r ≡ quadrantOf south west ⌝ }
+{
+    if south {
+        return if west { b'5' } else { b'3' };
+    }
+    if west { b'7' } else { b'1' }
+}
+
+// The octant of two hemispheres, past 90 degrees or not.
+fn octant_of(far: bool, south: bool, west: bool) -> u8
+    ensures { λ r. ⌜ r ≡ octantOf far south west ⌝ }
+{
+    if far {
+        return far_octant(south, west);
+    }
+    near_octant(south, west)
+}
+
+fn near_octant(south: bool, west: bool) -> u8
+    ensures { λ r. ⌜ r ≡ nearOctant south west ⌝ }
+{
+    if south {
+        return if west { b'5' } else { b'8' };
+    }
+    if west { b'0' } else { b'3' }
+}
+
+fn far_octant(south: bool, west: bool) -> u8
+    ensures { λ r. ⌜ r ≡ farOctant south west ⌝ }
+{
+    if south {
+        return if west { b'6' } else { b'7' };
+    }
+    if west { b'1' } else { b'2' }
+}
+
+// The digit of an edition for a plain place.
+fn plain_digit(to: Edition, far: bool, south: bool, west: bool) -> u8
+    ensures { λ r. ⌜ r ≡ digitIn to far south west ⌝ }
+{
+    match to {
+        Edition::One => octant_of(far, south, west),
+        Edition::Three => quadrant_of(south, west),
+        Edition::Four => quadrant_of(south, west),
+    }
+}
+
+// The lowest digit of the edition `to` that gives the place of digit d and keeps tie 2, as a character;
+// 0 where there is none. A plain place has one, which stands in a table.
+pub fn digit_for(from: Edition, to: Edition, d: u32, latitude: u32, longitude: u32) -> u8
+    ensures { λ r. ⌜ r ≡ lowestDigit from to d latitude longitude ⌝ }
+{
+    if !is_plain(latitude, longitude) {
+        return lowest_digit(from, to, d, latitude, longitude);
+    }
+    plain_digit(
+        to,
+        900 < longitude,
+        reading::is_south(from, d),
+        reading::is_west(from, d),
+    )
 }
 
 // Is it edition 1?

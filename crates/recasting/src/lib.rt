@@ -69,7 +69,7 @@ fn hemisphere_of(from: Edition, to: Edition, line: &[u8]) -> u8
     }
     let latitude = page::columns(line, 12, 3);
     let longitude = page::columns(line, 15, 4);
-    hemispheres::lowest_digit(
+    hemispheres::digit_for(
         from,
         to,
         text::number_of(digit),

@@ -41,11 +41,11 @@ number-of-requires-2 c κs = search needs
 number-of-requires-3 : tie.Need-number-of-requires-3
 number-of-requires-3 c κs = search needs
 
-lowest-digit-requires : tie.Need-lowest-digit-requires
-lowest-digit-requires c κs = search needs
+digit-for-requires : tie.Need-digit-for-requires
+digit-for-requires c κs = search needs
 
 returns-3 : tie.Need-returns-3
-returns-3 c = crossed _ _ _ _ (c .before .before .before .before .before .before .before .before .before .is-crossing .ensures) (not-false _ (c .before .before .before .before .before .before .before .before .if1 .left)) _ (c .before .before .before .before .before .before .before .before .before .before .columns .ensures .0) _ (c .before .before .before .before .before .before .before .is-blank .ensures) (c .before .before .before .before .before .before .if2 .left) _ _ (c .before .before .before .before .before .columns2 .ensures .0) (c .before .before .before .before .columns3 .ensures .0) _ _ _ (c .before .before .before .number-of .ensures) (c .before .before .number-of2 .ensures) (c .before .number-of3 .ensures) _ (c .lowest-digit .ensures)
+returns-3 c = crossed _ _ _ _ (c .before .before .before .before .before .before .before .before .before .is-crossing .ensures) (not-false _ (c .before .before .before .before .before .before .before .before .if1 .left)) _ (c .before .before .before .before .before .before .before .before .before .before .columns .ensures .0) _ (c .before .before .before .before .before .before .before .is-blank .ensures) (c .before .before .before .before .before .before .if2 .left) _ _ (c .before .before .before .before .before .columns2 .ensures .0) (c .before .before .before .before .columns3 .ensures .0) _ _ _ (c .before .before .before .number-of .ensures) (c .before .before .number-of2 .ensures) (c .before .number-of3 .ensures) _ (c .digit-for .ensures)
 
 pub hemisphere-of-spec : {M : Type 1} → statement M
 hemisphere-of-spec =
@@ -63,5 +63,5 @@ hemisphere-of-spec =
     number-of-requires
     number-of-requires-2
     number-of-requires-3
-    lowest-digit-requires
+    digit-for-requires
     returns-3)

@@ -86,16 +86,3 @@ pub fn put(buffer: &mut [u8], at: usize, width: usize, numeral: Numeral)
         n = n / base;
     }
 }
-
-// Blanks the columns from `at` on. Most elements have one, for which a store is enough: a loop over so
-// few columns costs more than what it does.
-pub fn blank(buffer: &mut [u8], at: usize, width: usize)
-    requires { ⌜ at + width ≤ length (now buffer) ⌝ }
-    ensures { λ _. ⌜ now (buffer .exit) ≡ placed at (spell width inBlanks) (now (buffer .entry)) ⌝ }
-{
-    if width == 1 {
-        buffer[at] = b' ';
-        return;
-    }
-    put(buffer, at, width, Numeral::blanks());
-}

@@ -8,7 +8,6 @@ use checking::Answer;
 use layout::Edition;
 use layout::Named;
 use layout::Refusal;
-use layout::page;
 use losses::Losses;
 ghost use mathlib.Core.Path.{_≡_};
 ghost use Prim.Native.Nat.{_≤_};
@@ -60,15 +59,15 @@ fn hemisphere_of(from: Edition, to: Edition, line: &[u8]) -> u8
     requires { ⌜ 131 ≤ length (now line) ⌝ }
     ensures { λ r. ⌜ r ≡ hemisphere from to (now (line .entry)) ⌝ }
 {
-    let digit = page::columns(line, 11, 1);
+    let digit = &line[11..12];
     if !hemispheres::is_crossing(from, to) {
         return line[11];
     }
     if text::is_blank(digit) {
         return line[11];
     }
-    let latitude = page::columns(line, 12, 3);
-    let longitude = page::columns(line, 15, 4);
+    let latitude = &line[12..15];
+    let longitude = &line[15..19];
     hemispheres::digit_for(
         from,
         to,

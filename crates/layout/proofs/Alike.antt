@@ -1,20 +1,16 @@
 -- The elements that all editions have alike: those before column 70 but for column 12, and those of columns 81 to 109; and that editions 3 and 4 have. Assumes nothing.
 use mathlib.Core.Path.{_≡_, refl, sym, ap, _∙_}
 use mathlib.Core.Bool.{Bool, true, false}
-use mathlib.Core.List.{List, map}
+use mathlib.Core.List.{map}
 use Prim.Native.Nat.{ℕ, _+_, _-_, _<_, _≤_}
 use native.Mathlib.Omega.{arith}
 use borrow.Author.Tests.{leb-true, leb-false}
 use lib.Dec.{leb}
-use lib.ListN.{getD, take, drop, List·getD-map}
-use lib.Seq.{getD-take, getD-drop}
+use lib.ListN.{getD, List·getD-map}
 use Rattle.layout.specs.declared.Edition.{Edition}
 use Rattle.layout.specs.declared.Edition.the-variants.{One, Three, Four}
-use Rattle.layout.specs.Page.{Element, page, elements, element, none, textsIn, textsOf}
-
--- the n elements from k on
-abbrev part : ℕ → ℕ → List Element
-part k n = take n (drop k elements)
+use Rattle.layout.specs.Page.{page, none, textsIn, textsOf}
+use Rattle.layout.proofs.LegalTexts.{part, in-part}
 
 no-texts : (ed : Edition) → textsIn ed none ≡ textsIn Four none
 no-texts One = refl
@@ -24,11 +20,7 @@ no-texts Four = refl
 -- where antt computes that an edition has for them the texts of edition 4, it has them for each
 module _ (k n e : ℕ) (l : k ≤ e) (h : e < k + n) where
   texts-in : (ed : Edition) → getD (map (textsIn ed) (part k n)) (e - k) (textsIn ed none) ≡ textsOf ed e
-  unfolding element
-  texts-in ed =
-      let place : k + (e - k) ≡ e = omega arith in
-      List·getD-map (textsIn ed) (part k n) (e - k) none ∙
-      ap (textsIn ed) (getD-take n (drop k elements) (e - k) none (omega arith) ∙ getD-drop k elements (e - k) none ∙ ap (λ (i : ℕ). getD elements i none) place)
+  texts-in ed = List·getD-map (textsIn ed) (part k n) (e - k) none ∙ ap (textsIn ed) (in-part k n e l h)
 
   as-in-four : (ed : Edition) → map (textsIn ed) (part k n) ≡ map (textsIn Four) (part k n) → textsOf ed e ≡ textsOf Four e
   as-in-four ed same = sym (texts-in ed) ∙ rw (same, no-texts ed) (texts-in Four)

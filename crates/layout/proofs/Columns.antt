@@ -1,5 +1,5 @@
 -- Where the elements of the page stand: one after the other, at most seven columns wide. Assumes nothing.
-use mathlib.Core.Path.{_≡_, refl, sym}
+use mathlib.Core.Path.{_≡_, refl, sym, _∙_}
 use mathlib.Core.Bool.{Bool, true, _&&_}
 use mathlib.Core.List.{List, [], _∷_}
 use Prim.Native.Nat.{ℕ, zero, suc, _+_, _-_, _≤_, zero-le}
@@ -9,12 +9,17 @@ use native.Mathlib.Omega.{arith}
 use mathlib.Core.Logic.{⊎-elim}
 use borrow.Author.Tests.{leb-true}
 use lib.Dec.{leb}
-use lib.ListN.{getD, take}
+use lib.ListN.{getD, take, List·getD-map}
 use Rattle.text.proofs.Ways.{and-first, and-second}
 use Rattle.layout.specs.Editions.{lengthOf, lastOf}
 use Rattle.layout.specs.declared.Edition.{Edition}
 use Rattle.layout.specs.declared.Edition.the-variants.{One, Three, Four}
-use Rattle.layout.specs.Page.{Element, page, none, elements, element, widthOf, columns, startOf}
+use Rattle.layout.specs.Page.{Element, page, none, elements, element, WidthRow, widthOf, columns, startOf}
+
+-- a row that says the elements' widths says each of them, and 0 where it ends
+pub width-at : (ws : List ℕ) → WidthRow ws → (e : ℕ) → getD ws e 0 - 48 ≡ widthOf e
+unfolding element
+width-at ws row e = sym (List·getD-map (λ b. b - 48) ws e 0) ∙ rw (row .says) (List·getD-map (λ x. x .width) elements e none)
 
 -- one element more
 next : (l : List Element) (e : ℕ) → columns (take (suc e) l) ≡ columns (take e l) + (getD l e none) .width

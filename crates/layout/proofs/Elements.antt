@@ -6,23 +6,15 @@ use Prim.Native.Nat.{ℕ, _+_, _-_, _≤_}
 use native.Mathlib.Nat.{add-sub-cancel-left, min-le-left}
 use native.Mathlib.Omega.{arith}
 use lib.Dec.{lit≤}
-use lib.ListN.{length, getD, take, drop, length-take}
+use lib.ListN.{length, take, drop, length-take}
 use Rattle.text.specs.Bytes.{blank}
 use Rattle.text.specs.Texts.{allows}
 use Rattle.text.specs.declared.Texts.{Texts}
-use Rattle.text.specs.First.{firstOf, firstFrom}
-use Rattle.text.proofs.First.{same-first}
 use Rattle.layout.specs.declared.Edition.{Edition}
 use Rattle.layout.specs.declared.Edition.the-variants.{One, Three, Four}
 use Rattle.layout.specs.Editions.{lengthOf, lastOf}
-use Rattle.layout.specs.Letters.{lettered, WidthRow, LetterRow}
 use Rattle.layout.specs.Page.{element, widthOf, startOf, textOf, textsOf, mayBeBlank, legalText, legal}
 use Rattle.layout.proofs.Columns.{start-next, start-rises, narrow, filled}
-use Rattle.layout.proofs.Rows.{width-at, texts-at}
-
--- the test of element e by the letters of a row, whichever edition's they are
-unfoldable pub byLetters : List ℕ → List ℕ → ℕ → Bool
-byLetters ls xs e = (mayBeBlank e && blank (textOf e xs)) || allows (lettered (getD ls e 0)) (textOf e xs)
 
 pub last-below : (ed : Edition) → lastOf ed ≤ 101
 last-below One = lit≤ tt
@@ -30,39 +22,25 @@ last-below Three = lit≤ tt
 last-below Four = lit≤ tt
 
 -- the loop stands at element e, whose columns start at `at` and are d
-module _ (ws : List ℕ) (row : WidthRow ws) (at e d : ℕ) (stands : at ≡ startOf e) (wide : d ≡ getD ws e 0 - 48) where
-  width : d ≡ widthOf e
-  width = wide ∙ width-at ws row e
-
+module _ (at e d : ℕ) (stands : at ≡ startOf e) (wide : d ≡ widthOf e) where
   pub next : at + d ≡ startOf (e + 1)
-  next = rw (stands, width) (sym (start-next e))
+  next = rw (stands, wide) (sym (start-next e))
 
   pub within : (ed : Edition) (xs : List ℕ) (last : ℕ) → last ≡ lastOf ed → length xs ≡ lengthOf ed → e ≤ last → at + d ≤ length xs
   within ed xs last n f h = rw (next, f, ← filled ed) (start-rises (e + 1) (lastOf ed + 1) (omega arith))
 
   pub part : (xs : List ℕ) → take (at + d - at) (drop at xs) ≡ textOf e xs
   unfolding textOf
-  part xs = rw (add-sub-cancel-left at d, stands, width)
+  part xs = rw (add-sub-cancel-left at d, stands, wide)
 
   pub small : (xs : List ℕ) → length (take (at + d - at) (drop at xs)) ≤ 7
   unfolding textOf
   small xs = rw (part xs, length-take) (omega (arith, min-le-left (widthOf e) (length (drop (startOf e) xs)), narrow e))
 
-  pub tested : (ls xs : List ℕ) (r : Bool) →
-      r ≡ ((mayBeBlank e && blank (take (at + d - at) (drop at xs))) || allows (lettered (getD ls e 0)) (take (at + d - at) (drop at xs))) → r ≡ byLetters ls xs e
-  unfolding byLetters
-  tested ls xs r g = g ∙ rw (part xs)
-
--- the letters are an edition's, so what they find is what the page finds
-pub same-place : (ed : Edition) (ls xs : List ℕ) → LetterRow ed ls → (last : ℕ) → last ≡ lastOf ed →
-    firstOf last (byLetters ls xs) ≡ firstOf (lastOf ed) (legal ed xs)
-unfolding byLetters legal
-same-place ed ls xs l last n = same-first (byLetters ls xs) (legal ed xs) (λ e. rw (texts-at ed ls l e)) 1 last ∙ ap (firstFrom (legal ed xs) 1) n
-
--- the test of one element by the letter of its row
-pub legal-of : (ed : Edition) (xs ls : List ℕ) (e : ℕ) → LetterRow ed ls → (t : List ℕ) → t ≡ textOf e xs → (r : Bool) → r ≡ ((mayBeBlank e && blank t) || allows (lettered (getD ls e 0)) t) → r ≡ legal ed xs e
+-- the test of an element's text by the texts of its edition
+pub legal-of : (ed : Edition) (xs t : List ℕ) (e : ℕ) (texts : Texts) → texts ≡ textsOf ed e → t ≡ textOf e xs → (r : Bool) → r ≡ ((mayBeBlank e && blank t) || allows texts t) → r ≡ legal ed xs e
 unfolding legal
-legal-of ed xs ls e l t f r g = g ∙ rw (texts-at ed ls l e, f)
+legal-of ed xs t e texts l f r g = g ∙ rw (l, f)
 
 -- the texts of an element that are the same in all editions
 pub in-each : (ed : Edition) (e : ℕ) (s : Texts) → element e .in1 ≡ s → element e .in3 ≡ s → element e .in4 ≡ s → textsOf ed e ≡ s

@@ -1,12 +1,11 @@
 -- The laws of the page that the functions of this crate and of those above it cite.
 pub mod Columns
-pub mod Rows
+pub mod LegalTexts
 pub mod Elements
 pub mod Beyond
 pub mod RefusalLaws
 pub mod Demand2Columns
 pub mod Parts
 pub mod RecordLaws
-pub mod Singles
 pub mod Alike
 pub mod Lacking

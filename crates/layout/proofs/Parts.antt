@@ -6,11 +6,9 @@ use native.Mathlib.Nat.{add-sub-cancel-left, min-le-left}
 use native.Mathlib.Omega.{arith}
 use lib.ListN.{length, getD, take, drop, drop-of-length-le, length-take, length-drop}
 use lib.Seq.{take-all}
-use Rattle.layout.specs.Letters.{WidthRow}
-use Rattle.layout.specs.Page.{startOf, widthOf, textOf}
+use Rattle.layout.specs.Page.{WidthRow, startOf, widthOf, textOf}
 use Rattle.layout.proofs.Beyond.{take-none}
-use Rattle.layout.proofs.Columns.{narrow}
-use Rattle.layout.proofs.Rows.{width-at}
+use Rattle.layout.proofs.Columns.{narrow, width-at}
 
 module _ (xs : List ℕ) (start width : ℕ) where
   pub past : length xs ≤ start → [] ≡ take width (drop start xs)

@@ -1,7 +1,8 @@
 -- The layout page: for each element, in order, how many columns it has and what may be written there in the editions 1, 3 and 4, as document 01
 -- lists it under 'Legal texts'. Where an element starts is worked out from the widths; no other list says it. Assumes nothing.
-use Prim.Native.Nat.{ℕ, _+_}
-use mathlib.Core.List.{List, [], _∷_}
+use mathlib.Core.Path.{_≡_}
+use Prim.Native.Nat.{ℕ, _+_, _-_}
+use mathlib.Core.List.{List, [], _∷_, map}
 use mathlib.Core.Bool.{Bool, not, _&&_, _||_}
 use lib.Dec.{eqb}
 use lib.ListN.{getD, take, drop}
@@ -156,6 +157,10 @@ element e = getD elements e none
 abbrev pub widthOf : ℕ → ℕ
 widthOf e = (element e) .width
 
+-- a row of digits that are the elements' widths
+pub record WidthRow (ws : List ℕ) : Type 0 where
+  pub says : map (λ b. b - 48) ws ≡ map (λ e. e .width) elements
+
 -- how many columns some elements have
 unfoldable pub columns : List Element → ℕ
 columns [] = 0
@@ -169,10 +174,14 @@ startOf e = columns (take e elements)
 unfoldable pub textOf : ℕ → List ℕ → List ℕ
 textOf e xs = take (widthOf e) (drop (startOf e) xs)
 
+-- the texts of an edition, of those of the three
+abbrev pub inEdition : Edition → Texts → Texts → Texts → Texts
+inEdition One s t u = s
+inEdition Three s t u = t
+inEdition Four s t u = u
+
 abbrev pub textsIn : Edition → Element → Texts
-textsIn One e = e .in1
-textsIn Three e = e .in3
-textsIn Four e = e .in4
+textsIn ed e = inEdition ed (e .in1) (e .in3) (e .in4)
 
 -- the legal texts of element e
 abbrev pub textsOf : Edition → ℕ → Texts

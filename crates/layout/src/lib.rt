@@ -2,6 +2,7 @@
 // it refuses.
 //
 // The definitions of specs/ are the document; the functions here are what they compute.
+pub mod legal_texts;
 pub mod page;
 
 ghost use mathlib.Core.Path.{_≡_};

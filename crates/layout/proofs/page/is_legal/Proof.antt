@@ -7,14 +7,14 @@ use Rattle.layout.proofs.page.is_legal.Tie as tie
 is-missing-requires : tie.Need-is-missing-requires
 is-missing-requires c κs = search needs
 
-is-lettered-requires : tie.Need-is-lettered-requires
-is-lettered-requires c κs = search needs
+is-one-requires : tie.Need-is-one-requires
+is-one-requires c κs = search needs
 
 returns : tie.Need-returns
 returns c = or-holds _ _ (c .before .is-missing .ensures) _ (c .if1 .taken)
 
 returns-2 : tie.Need-returns-2
-returns-2 c = or-goes-on _ _ (c .before .before .is-missing .ensures) _ _ (c .before .if1 .left) (c .is-lettered .ensures)
+returns-2 c = or-goes-on _ _ (c .before .before .is-missing .ensures) _ _ (c .before .if1 .left) (c .is-one .ensures)
 
 pub is-legal-spec : {M : Type 1} → statement M
-is-legal-spec = tie.close (tie.spec is-missing-requires is-lettered-requires returns returns-2)
+is-legal-spec = tie.close (tie.spec is-missing-requires is-one-requires returns returns-2)

@@ -1,6 +1,6 @@
 -- `layout::page::width_of` meets its contract. Assumes nothing.
 use Rattle.layout.proofs.Beyond.{width-past}
-use Rattle.layout.proofs.Rows.{width-at}
+use Rattle.layout.proofs.Columns.{width-at}
 use borrow.Author.Needs.{needs}
 use mathlib.Core.Path.{_∙_}
 use Rattle.layout.proofs.page.width_of.Statement.{statement}

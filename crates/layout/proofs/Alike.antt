@@ -7,15 +7,11 @@ use native.Mathlib.Omega.{arith}
 use borrow.Author.Tests.{leb-true, leb-false}
 use lib.Dec.{leb}
 use lib.ListN.{getD, List·getD-map}
+use Rattle.text.specs.declared.Texts.the-variants.{Nothing}
 use Rattle.layout.specs.declared.Edition.{Edition}
 use Rattle.layout.specs.declared.Edition.the-variants.{One, Three, Four}
 use Rattle.layout.specs.Page.{page, none, textsIn, textsOf}
-use Rattle.layout.proofs.LegalTexts.{part, in-part}
-
-no-texts : (ed : Edition) → textsIn ed none ≡ textsIn Four none
-no-texts One = refl
-no-texts Three = refl
-no-texts Four = refl
+use Rattle.layout.proofs.LegalTexts.{in-all, part, in-part}
 
 -- where antt computes that an edition has for them the texts of edition 4, it has them for each
 module _ (k n e : ℕ) (l : k ≤ e) (h : e < k + n) where
@@ -23,7 +19,7 @@ module _ (k n e : ℕ) (l : k ≤ e) (h : e < k + n) where
   texts-in ed = List·getD-map (textsIn ed) (part k n) (e - k) none ∙ ap (textsIn ed) (in-part k n e l h)
 
   as-in-four : (ed : Edition) → map (textsIn ed) (part k n) ≡ map (textsIn Four) (part k n) → textsOf ed e ≡ textsOf Four e
-  as-in-four ed same = sym (texts-in ed) ∙ rw (same, no-texts ed) (texts-in Four)
+  as-in-four ed same = sym (texts-in ed) ∙ rw (same, ← in-all ed Nothing) (texts-in Four)
 
   alike-in : ((ed : Edition) → map (textsIn ed) (part k n) ≡ map (textsIn Four) (part k n)) → (from to : Edition) → textsOf from e ≡ textsOf to e
   alike-in same from to = as-in-four from (same from) ∙ sym (as-in-four to (same to))

@@ -3,10 +3,10 @@ use mathlib.Core.Path.{_≡_, refl, sym, ap, _∙_}
 use mathlib.Core.Bool.{Bool, true, false, _&&_, _||_}
 use mathlib.Core.List.{List}
 use Prim.Native.Nat.{ℕ, _+_, _-_, _≤_}
-use native.Mathlib.Nat.{add-sub-cancel-left, min-le-left}
+use native.Mathlib.Nat.{add-sub-cancel-left}
 use native.Mathlib.Omega.{arith}
 use lib.Dec.{lit≤}
-use lib.ListN.{length, take, drop, length-take}
+use lib.ListN.{length, take, drop}
 use Rattle.text.specs.Bytes.{blank}
 use Rattle.text.specs.Texts.{allows}
 use Rattle.text.specs.declared.Texts.{Texts}
@@ -14,14 +14,15 @@ use Rattle.layout.specs.declared.Edition.{Edition}
 use Rattle.layout.specs.declared.Edition.the-variants.{One, Three, Four}
 use Rattle.layout.specs.Editions.{lengthOf, lastOf}
 use Rattle.layout.specs.Page.{element, widthOf, startOf, textOf, textsOf, mayBeBlank, legalText, legal}
-use Rattle.layout.proofs.Columns.{start-next, start-rises, narrow, filled}
+use Rattle.layout.proofs.Columns.{start-next, start-rises, filled}
+use Rattle.layout.proofs.LegalTexts.{in-all}
 
 pub last-below : (ed : Edition) → lastOf ed ≤ 101
 last-below One = lit≤ tt
 last-below Three = lit≤ tt
 last-below Four = lit≤ tt
 
--- the loop stands at element e, whose columns start at `at` and are d
+-- a loop stands at element e, whose columns start at `at` and are d
 module _ (at e d : ℕ) (stands : at ≡ startOf e) (wide : d ≡ widthOf e) where
   pub next : at + d ≡ startOf (e + 1)
   next = rw (stands, wide) (sym (start-next e))
@@ -33,20 +34,14 @@ module _ (at e d : ℕ) (stands : at ≡ startOf e) (wide : d ≡ widthOf e) whe
   unfolding textOf
   part xs = rw (add-sub-cancel-left at d, stands, wide)
 
-  pub small : (xs : List ℕ) → length (take (at + d - at) (drop at xs)) ≤ 7
-  unfolding textOf
-  small xs = rw (part xs, length-take) (omega (arith, min-le-left (widthOf e) (length (drop (startOf e) xs)), narrow e))
-
 -- the test of an element's text by the texts of its edition
 pub legal-of : (ed : Edition) (xs t : List ℕ) (e : ℕ) (texts : Texts) → texts ≡ textsOf ed e → t ≡ textOf e xs → (r : Bool) → r ≡ ((mayBeBlank e && blank t) || allows texts t) → r ≡ legal ed xs e
 unfolding legal
 legal-of ed xs t e texts l f r g = g ∙ rw (l, f)
 
--- the texts of an element that are the same in all editions
+-- an element whose texts are the same in all editions
 pub in-each : (ed : Edition) (e : ℕ) (s : Texts) → element e .in1 ≡ s → element e .in3 ≡ s → element e .in4 ≡ s → textsOf ed e ≡ s
-in-each One e s p q r = p
-in-each Three e s p q r = q
-in-each Four e s p q r = r
+in-each ed e s p q r = rw (p, q, r) (sym (in-all ed s))
 
 -- blanks are legal where they may stand, and what is allowed is legal
 pub blank-legal : (ed : Edition) (e : ℕ) (t : List ℕ) → mayBeBlank e ≡ true → blank t ≡ true → legalText ed e t ≡ true

@@ -1,7 +1,8 @@
 -- `layout::page::first_illegal` meets its contract: the loop stands at element e, and what is left to look at says the same as the whole. Assumes nothing.
 use Prim.Native.Nat.{ℕ, _+_, _-_, _<_, _≤_}
 use Rattle.layout.proofs.Columns.{width-at}
-use Rattle.layout.proofs.Elements.{last-below, legal-of, next, part, small, within}
+use Rattle.layout.proofs.Elements.{last-below, legal-of, next, part, within}
+use Rattle.layout.proofs.Parts.{own-width}
 use Rattle.text.proofs.First.{begin, end, off, on}
 use Rattle.text.specs.First.{firstFrom, firstOf}
 use borrow.Author.Needs.{needs}
@@ -84,7 +85,7 @@ part-is-legal-end : tie.Need-part-is-legal-end Inv-loop μ-loop
 part-is-legal-end c = ends (c .before)
 
 is-legal-requires : tie.Need-is-legal-requires Inv-loop μ-loop
-is-legal-requires c κs = let digit = c .before .before in small _ _ _ (digit .before .before .loop .inv .1 .0) (wide digit) _
+is-legal-requires c κs = let digit = c .before .before in own-width _ _ _ (part _ _ _ (digit .before .before .loop .inv .1 .0) (wide digit) _)
 
 returns : tie.Need-returns Inv-loop μ-loop
 returns c =

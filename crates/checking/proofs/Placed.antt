@@ -7,10 +7,6 @@ use native.Mathlib.Nat.{le-of-suc-le-suc, not-suc-le-zero}
 use native.Mathlib.Omega.{arith}
 use borrow.Author.Tests.{le-leb, lt-leb}
 use lib.ListN.{length, getD, List·getD-eq-default}
-use Rattle.text.specs.Bytes.{every, printable}
-use Rattle.text.specs.First.{firstOf}
-use Rattle.text.proofs.Every.{every-at}
-use Rattle.text.proofs.First.{none-of-all}
 use Rattle.checking.specs.Check.{column, printableAt}
 
 -- what stands at a place within a list is the same whatever stands past its end
@@ -47,7 +43,3 @@ module _ (xs : List ℕ) (c : ℕ) (h : 1 ≤ c) (l : c ≤ length xs) where
 
   pub prints : 32 ≤ getD xs (c - 1) 0 → getD xs (c - 1) 0 ≤ 126 → printableAt xs c ≡ true
   prints a b = rw (column-at xs c h l, le-leb _ _ a, le-leb _ _ b)
-
--- where every byte prints, no column fails
-pub all-print : (xs : List ℕ) → every printable xs ≡ true → 0 ≡ firstOf (length xs) (printableAt xs)
-all-print xs e = sym (none-of-all (printableAt xs) (length xs) (λ c h l. ap printable (column-at xs c h (omega arith)) ∙ every-at printable xs e (c - 1) (omega arith)))

@@ -2,11 +2,11 @@
 //
 // Every function takes the columns alone, as a part of the record. What a record's columns are is
 // the business of `layout`. The contracts cite `specs/Bytes.antt` and `specs/Texts.antt`.
-ghost use mathlib.Core.Bool.{true, _||_, Bool·beq};
+ghost use mathlib.Core.Bool.{Bool·beq};
 ghost use mathlib.Core.Path.{_≡_};
 ghost use Prim.Native.Nat.{_≤_, _-_};
 ghost use lib.ListN.{length, take};
-ghost use Rattle.text.specs.Bytes.{every, between, either, printable, blank, number, run, toLastNonBlank};
+ghost use Rattle.text.specs.Bytes.{every, between, either, blank, number, run, toLastNonBlank};
 ghost use Rattle.text.specs.Texts.{among, callSign, allows, numeral};
 
 // The texts that an element may hold where it is not blank.

@@ -34,29 +34,29 @@ fits from to e = not (alone e) || ((eqb (widthOf e) 1 && eqb (startOf e) (column
 
 all-fit : (from to : Edition) → firstFrom (fits from to) 1 101 ≡ 0
 unfolding
-  firstFrom
-  agrees
-  fits
-  element
-  page
-  columns
-  startOf
-  lostText
-  keeps
-  senseOf
-  sourceSense
-  platformSense
-  allows
-  every
-  valueFrom
-  run
-  codesLost
-  countryLost
-  versionLost
-  flagsLost
-  laterLost
-  sharedLost
-  lostIn
+    firstFrom
+    agrees
+    fits
+    element
+    page
+    columns
+    startOf
+    lostText
+    keeps
+    senseOf
+    sourceSense
+    platformSense
+    allows
+    every
+    valueFrom
+    run
+    codesLost
+    countryLost
+    versionLost
+    flagsLost
+    laterLost
+    sharedLost
+    lostIn
 all-fit One One = refl
 all-fit One Three = refl
 all-fit One Four = refl

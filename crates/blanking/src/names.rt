@@ -24,13 +24,14 @@ fn bit(lost: bool, mask: u8) -> u8
     if lost { mask } else { 0 }
 }
 
-// The same number, as wide as an index is, and as a word is.
+// The same number, as wide as an index is.
 fn index(b: u8) -> usize
     ensures { λ r. ⌜ r ≡ b ⌝ }
 {
     b as usize
 }
 
+// The same number, as wide as a word is.
 fn wide(b: u8) -> u64
     ensures { λ r. ⌜ r ≡ b ⌝ }
 {
@@ -92,7 +93,8 @@ fn name_codes(line: &[u8], changed: bool) -> u64
     if !changed {
         return 0;
     }
-    let source = name_column(line, 69, b'1', b'1', 1 << 39) | name_column(line, 69, b'4', b'4', 1 << 39);
+    let source = name_column(line, 69, b'1', b'1', 1 << 39)
+        | name_column(line, 69, b'4', b'4', 1 << 39);
     source | name_column(line, 70, b'4', b'4', 1 << 40) | name_column(line, 70, b'7', b'9', 1 << 40)
 }
 
@@ -174,5 +176,8 @@ pub fn losses_of(from: Edition, to: Edition, line: &[u8]) -> Losses
     let country = name_country(line, hemispheres::is_crossing(from, to));
     let low = codes | country | name_version(line, back);
     let high = name_flags(line, back) | name_last(from, to, line);
-    Losses { low: low, high: high }
+    Losses {
+        low: low,
+        high: high,
+    }
 }

@@ -75,9 +75,9 @@ fn is_suited(from: Edition, to: Edition, d: u32, latitude: u32, longitude: u32, 
     is_same_place(from, d, to, c, latitude, longitude) && keeps_tie(to, c, longitude)
 }
 
-// The lowest digit of the edition `to` that gives the place of digit d and keeps tie 2, as a character;
-// 0 where there is none. It tries one after the other.
-fn lowest_digit(from: Edition, to: Edition, d: u32, latitude: u32, longitude: u32) -> u8
+// The lowest digit of the edition `to` that gives the place of digit d and keeps tie 2, found by trying
+// one after the other.
+fn first_digit(from: Edition, to: Edition, d: u32, latitude: u32, longitude: u32) -> u8
     ensures { λ r. ⌜ r ≡ lowestDigit from to d latitude longitude ⌝ }
 {
     let mut b = 48;
@@ -134,6 +134,7 @@ fn octant_of(far: bool, south: bool, west: bool) -> u8
     near_octant(south, west)
 }
 
+// The octant of two hemispheres up to 90 degrees.
 fn near_octant(south: bool, west: bool) -> u8
     ensures { λ r. ⌜ r ≡ nearOctant south west ⌝ }
 {
@@ -143,6 +144,7 @@ fn near_octant(south: bool, west: bool) -> u8
     if west { b'0' } else { b'3' }
 }
 
+// The octant of two hemispheres past 90 degrees.
 fn far_octant(south: bool, west: bool) -> u8
     ensures { λ r. ⌜ r ≡ farOctant south west ⌝ }
 {
@@ -165,11 +167,11 @@ fn plain_digit(to: Edition, far: bool, south: bool, west: bool) -> u8
 
 // The lowest digit of the edition `to` that gives the place of digit d and keeps tie 2, as a character;
 // 0 where there is none. A plain place has one, which stands in a table.
-pub fn digit_for(from: Edition, to: Edition, d: u32, latitude: u32, longitude: u32) -> u8
+pub fn lowest_digit(from: Edition, to: Edition, d: u32, latitude: u32, longitude: u32) -> u8
     ensures { λ r. ⌜ r ≡ lowestDigit from to d latitude longitude ⌝ }
 {
     if !is_plain(latitude, longitude) {
-        return lowest_digit(from, to, d, latitude, longitude);
+        return first_digit(from, to, d, latitude, longitude);
     }
     plain_digit(
         to,

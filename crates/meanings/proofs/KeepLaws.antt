@@ -1,82 +1,35 @@
--- What each way through the tests of one element says: in which sense its text is taken, whether it is kept, whether it is lost. Assumes nothing.
+-- Which elements are kept: those that two editions have alike and take in one sense, and those that have rules of their own. Assumes nothing.
 use mathlib.Core.Path.{_≡_, refl, sym, ap, _∙_}
 use mathlib.Core.Bool.{Bool, true, false, not, _&&_, _||_}
 use mathlib.Core.List.{List}
 use Prim.Native.Nat.{ℕ, _≤_}
 use native.Mathlib.Omega.{arith}
-use borrow.Author.Tests.{eq-eqb, ne-eqb, eqb-true, eqb-false}
+use borrow.Author.Tests.{ne-eqb, eqb-true, eqb-false}
 use lib.Dec.{eqb}
-use Rattle.text.specs.Bytes.{blank, number}
+use Rattle.text.specs.Bytes.{blank}
 use Rattle.text.specs.Texts.{allows}
 use Rattle.text.specs.declared.Texts.{Texts}
 use Rattle.text.proofs.Among.{neither-first, neither-second}
 use Rattle.layout.specs.declared.Edition.{Edition}
-use Rattle.layout.specs.Letters.{lettered, lookup}
 use Rattle.layout.specs.Page.{textsOf, mayBeBlank, legalText}
 use Rattle.layout.proofs.Alike.{early-alike, added-alike}
-use Rattle.meanings.specs.declared.Sense.{Sense}
 use Rattle.meanings.specs.declared.Sense.the-variants.{Alike}
-use Rattle.meanings.specs.Meaning.{sourceSense, platformSense, countrySense, hasSenses, senseOf, senseNumber, sameSense}
+use Rattle.meanings.specs.Meaning.{hasSenses, senseOf, sameSense}
 use Rattle.meanings.specs.Kept.{keeps, lostText}
-
--- the sense of a text, by its element
-module _ (ed : Edition) (e : ℕ) (t : List ℕ) where
-  pub at-source : (s : Sense) (n : ℕ) → n ≡ number t → s ≡ sourceSense ed n → e ≡ 40 → s ≡ senseOf ed e t
-  unfolding senseOf
-  at-source s n f g h = g ∙ rw (eq-eqb e 40 h, f)
-
-  pub at-platform : (s : Sense) (n : ℕ) → n ≡ number t → s ≡ platformSense ed n → e ≡ 41 → s ≡ senseOf ed e t
-  unfolding senseOf
-  at-platform s n f g h = g ∙ rw (h, f)
-
-  pub at-country : (s : Sense) → s ≡ countrySense ed → e ≡ 43 → s ≡ senseOf ed e t
-  unfolding senseOf
-  at-country s g h = g ∙ rw h
-
-  pub at-others : eqb e 40 ≡ false → eqb e 41 ≡ false → eqb e 43 ≡ false → Alike ≡ senseOf ed e t
-  unfolding senseOf
-  at-others f g h = rw (f, g, h)
 
 -- where an element has one sense only, every edition takes it alike
 module _ (e : ℕ) (none : hasSenses e ≡ false) where
-  pub one-sense : (ed : Edition) (t : List ℕ) → Alike ≡ senseOf ed e t
+  one-sense : (ed : Edition) (t : List ℕ) → senseOf ed e t ≡ Alike
+  unfolding senseOf
   one-sense ed t =
-      let rest = neither-second (eqb e 40) _ none in
-      at-others ed e t (neither-first _ _ none) (neither-first _ _ rest) (neither-second (eqb e 41) _ rest)
+      let rest = neither-second (eqb e 40) (eqb e 41 || eqb e 43) none in
+      rw (neither-first (eqb e 40) (eqb e 41 || eqb e 43) none, neither-first (eqb e 41) (eqb e 43) rest, neither-second (eqb e 41) (eqb e 43) rest)
 
-  pub always-same : (from to : Edition) (t : List ℕ) → sameSense (senseOf from e t) (senseOf to e t) ≡ true
-  always-same from to t = rw (← one-sense from t, ← one-sense to t)
-
-pub numbers-agree : (a b : Sense) (s t : Sense) (m n : ℕ) → s ≡ a → t ≡ b → m ≡ senseNumber s → n ≡ senseNumber t → eqb m n ≡ sameSense a b
-numbers-agree a b s t m n f g h k = rw (h, k, f, g)
+  always-same : (from to : Edition) (t : List ℕ) → sameSense (senseOf from e t) (senseOf to e t) ≡ true
+  always-same from to t = rw (one-sense from t, one-sense to t)
 
 -- whether a text is kept
 module _ (from to : Edition) (e : ℕ) (t : List ℕ) where
-  pub kept-six : e ≡ 6 → true ≡ keeps from to e t
-  unfolding keeps
-  kept-six h = rw h
-
-  pub kept-version : e ≡ 65 → true ≡ keeps from to e t
-  unfolding keeps
-  kept-version h = rw h
-
-  module _ (a : e ≡ 6 → ⊥) (b : e ≡ 65 → ⊥) (letter : ℕ) (row : lettered letter ≡ textsOf to e) where
-    allowed : (x : Bool) → x ≡ allows (lettered letter) t → allows (textsOf to e) t ≡ x
-    allowed x f = ap (λ (s : Texts). allows s t) (sym row) ∙ sym f
-
-    pub not-allowed : (x : Bool) → x ≡ allows (lettered letter) t → x ≡ false → x ≡ keeps from to e t
-    unfolding keeps
-    not-allowed x f h = rw (ne-eqb e 6 a, ne-eqb e 65 b, allowed x f, h)
-
-    pub in-sense : (x : Bool) → x ≡ allows (lettered letter) t → x ≡ true → (y : Bool) → y ≡ sameSense (senseOf from e t) (senseOf to e t) → y ≡ keeps from to e t
-    unfolding keeps
-    in-sense x f h y g = rw (ne-eqb e 6 a, ne-eqb e 65 b, allowed x f, h) g
-
-    -- an element that the target does not have has no text there
-    pub not-had : letter ≡ 65 → false ≡ keeps from to e t
-    unfolding lettered lookup allows
-    not-had h = not-allowed false (ap (λ (l : ℕ). allows (lettered l) t) (sym h)) refl
-
   -- what is blank, or one of the target's texts in the one sense that the element has, is not lost
   in-texts : hasSenses e ≡ false → (blank t || allows (textsOf to e) t) ≡ true → lostText from to e t ≡ false
   unfolding lostText keeps
@@ -105,13 +58,13 @@ module _ (from to : Edition) (e : ℕ) (t : List ℕ) where
   by-rule true x h = refl
   by-rule false x h = rw h
 
-  pub column-12-kept : e ≡ 6 → lostText from to e t ≡ false
-  unfolding lostText
-  column-12-kept h = by-rule (blank t) (keeps from to e t) (sym (kept-six h))
+  column-12-kept : e ≡ 6 → lostText from to e t ≡ false
+  unfolding lostText keeps
+  column-12-kept h = by-rule (blank t) (keeps from to e t) (rw h)
 
   pub version-kept : e ≡ 65 → lostText from to e t ≡ false
-  unfolding lostText
-  version-kept h = by-rule (blank t) (keeps from to e t) (sym (kept-version h))
+  unfolding lostText keeps
+  version-kept h = by-rule (blank t) (keeps from to e t) (rw h)
 
   -- the elements but three have one sense
   one : (e ≡ 40 → ⊥) → (e ≡ 41 → ⊥) → (e ≡ 43 → ⊥) → hasSenses e ≡ false
@@ -127,18 +80,3 @@ module _ (from to : Edition) (e : ℕ) (t : List ℕ) where
 
   pub added-kept : 44 ≤ e → e ≤ 63 → legalText from e t ≡ true → lostText from to e t ≡ false
   added-kept l h legal = alike-kept (added-alike e l h from to) (one (λ q. omega arith) (λ q. omega arith) (λ q. omega arith)) legal
-
-  pub same-letter : (was becomes : ℕ) → lettered was ≡ textsOf from e → lettered becomes ≡ textsOf to e → was ≡ becomes → hasSenses e ≡ false → legalText from e t ≡ true → lostText from to e t ≡ false
-  same-letter was becomes f g h none legal = alike-kept (sym f ∙ ap lettered h ∙ g) none legal
-
-  -- the same by the target's letter
-  pub in-target : (becomes : ℕ) → lettered becomes ≡ textsOf to e → hasSenses e ≡ false → (blank t || allows (lettered becomes) t) ≡ true → lostText from to e t ≡ false
-  in-target becomes g none h = in-texts none (ap (λ (s : Texts). blank t || allows s t) (sym g) ∙ h)
-
-  pub blank-kept : (b : Bool) → b ≡ blank t → b ≡ true → false ≡ lostText from to e t
-  unfolding lostText
-  blank-kept b f h = rw (← f, h)
-
-  pub filled-lost : (b k : Bool) → b ≡ blank t → b ≡ false → k ≡ keeps from to e t → not k ≡ lostText from to e t
-  unfolding lostText
-  filled-lost b k f h g = rw (← f, h) (ap not g)

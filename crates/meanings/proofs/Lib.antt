@@ -1,3 +1,3 @@
--- The laws of meanings that the functions of this crate and demand 3 cite.
+-- The laws of meanings that demand 3 cites.
 pub mod KeepLaws
 pub mod SenseLaws

@@ -1,4 +1,4 @@
--- Texts placed in some bytes: what stands up to their end and behind it, and one after the other. Assumes nothing.
+-- Texts placed in some bytes: what stands up to their end, and one after the other. Assumes nothing.
 use mathlib.Core.Path.{_≡_, sym, ap, _∙_}
 use mathlib.Core.List.{List, [], _∷_, _++_, append-assoc, append-nil}
 use Prim.Native.Nat.{ℕ, _+_, _<_, _≤_}
@@ -9,22 +9,14 @@ use lib.ListN.{length, take, drop, set, length-append, length-drop, take-append-
 use lib.Seq.{set-split, length-take-le, take-append-seam, take-at, drop-at, drop-drop}
 use Rattle.numerals.specs.Spelling.{placed}
 
--- bytes placed in some others: what stands up to their end, and behind it
+-- bytes placed in some others: what stands up to their end
 pub placed-to : (at : ℕ) (t before : List ℕ) → at ≤ length before → take (at + length t) (placed at t before) ≡ take at before ++ t
 placed-to at t before h =
     take-at (take at before ++ t) (drop (at + length t) before) (at + length t) (length-append (take at before) t ∙ ap (λ (k : ℕ). k + length t) (length-take-le at before h))
 
-pub placed-behind : (at : ℕ) (t before : List ℕ) → at ≤ length before → drop (at + length t) (placed at t before) ≡ drop (at + length t) before
-placed-behind at t before h =
-    drop-at (take at before ++ t) (drop (at + length t) before) (at + length t) (length-append (take at before) t ∙ ap (λ (k : ℕ). k + length t) (length-take-le at before h))
-
 -- nothing placed changes nothing
 pub placed-none : (at : ℕ) (before : List ℕ) → placed at [] before ≡ before
 placed-none at before = rw (append-nil, add-zero) (take-append-drop at before)
-
--- one byte placed is that byte stored
-pub placed-one : (at b : ℕ) (before : List ℕ) → at < length before → set before at b ≡ placed at (b ∷ []) before
-placed-one at b before h = set-split before at b h ∙ ap (λ (k : ℕ). take at before ++ b ∷ drop k before) (sym (add-one at)) ∙ sym (append-assoc (take at before) (b ∷ []) (drop (at + 1) before))
 
 -- a text placed within the bytes leaves as many as there were
 pub placed-length : (at : ℕ) (t before : List ℕ) → at + length t ≤ length before → length (placed at t before) ≡ length before

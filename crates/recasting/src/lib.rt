@@ -68,7 +68,7 @@ fn hemisphere_of(from: Edition, to: Edition, line: &[u8]) -> u8
     }
     let latitude = &line[12..15];
     let longitude = &line[15..19];
-    hemispheres::digit_for(
+    hemispheres::lowest_digit(
         from,
         to,
         text::number_of(digit),

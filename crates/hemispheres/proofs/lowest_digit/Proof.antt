@@ -1,53 +1,43 @@
--- `hemispheres::lowest_digit` meets its contract: what is left to look at says the same as the whole. Assumes nothing.
-use Prim.Native.Nat.{_+_, _-_, _≤_}
-use Rattle.hemispheres.proofs.DigitLaws.{begins, ended, leaves, passed, taken}
+-- `hemispheres::lowest_digit` meets its contract. Assumes nothing.
 use borrow.Author.Needs.{needs}
-use lib.Dec.{lit≤}
-use native.Mathlib.Omega.{arith}
+use mathlib.Core.Path.{refl}
+use borrow.Author.Tests.{not-false}
+use Rattle.hemispheres.proofs.PlainLaws.{by-place}
 use Rattle.hemispheres.proofs.lowest_digit.Statement.{statement}
 use Rattle.hemispheres.proofs.lowest_digit.Tie as tie
 
-abbrev Inv-loop : tie.InvT-loop
-Inv-loop from to d latitude longitude b₀ b = (48 ≤ b) × leaves from to d latitude longitude b
+is-plain-requires : tie.Need-is-plain-requires
+is-plain-requires c κs = search needs
 
-abbrev μ-loop : tie.MeasureT-loop
-μ-loop from to d latitude longitude b₀ b = 57 + 1 - b
+first-digit-requires : tie.Need-first-digit-requires
+first-digit-requires c κs = search needs
 
-loop-holds : tie.Need-loop-holds Inv-loop μ-loop
-loop-holds c = (lit≤ tt, begins _ _ _ _ _)
+returns : tie.Need-returns
+returns c = search needs
 
-digit-of-requires : tie.Need-digit-of-requires Inv-loop μ-loop
-digit-of-requires c κs = c .before .loop .inv .0
+is-south-requires : tie.Need-is-south-requires
+is-south-requires c κs = search needs
 
-is-suited-requires : tie.Need-is-suited-requires Inv-loop μ-loop
-is-suited-requires c κs = rw (c .digit-of .ensures) (omega (arith, c .before .loop-test .taken))
+is-west-requires : tie.Need-is-west-requires
+is-west-requires c κs = search needs
 
-returns : tie.Need-returns Inv-loop μ-loop
-returns c = taken _ _ _ _ _ _ _ _ (c .before .before .digit-of .ensures) (c .before .is-suited .ensures) (c .before .before .before .before .loop .inv .1) (c .before .before .before .loop-test .taken) (c .if1 .taken)
+plain-digit-requires : tie.Need-plain-digit-requires
+plain-digit-requires c κs = search needs
 
-add-b : tie.Need-add-b Inv-loop μ-loop
-add-b c = search needs
-
-loop-less : tie.Need-loop-less Inv-loop μ-loop
-loop-less c = search needs
-
-loop-again : tie.Need-loop-again Inv-loop μ-loop
-loop-again c = (omega (arith, c .before .before .before .before .loop .inv .0), passed _ _ _ _ _ _ _ _ (c .before .before .digit-of .ensures) (c .before .is-suited .ensures) (c .before .before .before .before .loop .inv .1) (c .before .before .before .loop-test .taken) (c .if1 .left))
-
-returns-2 : tie.Need-returns-2 Inv-loop μ-loop
-returns-2 c = ended _ _ _ _ _ _ (c .before .loop .inv .1) (c .loop-test .left)
+returns-2 : tie.Need-returns-2
+returns-2 c =
+    let branch = c .before .before .before in
+    let args = branch .before .before .args in
+    by-place (args .latitude) (args .longitude) (branch .before .is-plain .ensures (not-false _ (branch .if1 .left))) (args .from) (args .to) (args .d) _ _ _ refl (c .before .before .is-south .ensures) (c .before .is-west .ensures) _ (c .plain-digit .ensures)
 
 pub lowest-digit-spec : {M : Type 1} → statement M
 lowest-digit-spec =
     tie.close
     (tie.spec
-    Inv-loop
-    μ-loop
-    loop-holds
-    digit-of-requires
-    is-suited-requires
+    is-plain-requires
+    first-digit-requires
     returns
-    add-b
-    loop-less
-    loop-again
+    is-south-requires
+    is-west-requires
+    plain-digit-requires
     returns-2)

@@ -65,8 +65,8 @@ number-of-requires-2 c κs = search needs
 number-of-requires-3 : tie.Need-number-of-requires-3
 number-of-requires-3 c κs = search needs
 
-digit-for-requires : tie.Need-digit-for-requires
-digit-for-requires c κs = search needs
+lowest-digit-requires : tie.Need-lowest-digit-requires
+lowest-digit-requires c κs = search needs
 
 returns-3 : tie.Need-returns-3
 returns-3 c =
@@ -74,7 +74,7 @@ returns-3 c =
     let branch = first .before .before .before in
     let blank = branch .before in
     let tests = blank .before .before in
-    crossed _ _ _ _ (tests .is-crossing .ensures) (not-false _ (blank .before .if1 .left)) _ refl _ (blank .is-blank .ensures) (branch .if2 .left) _ _ refl refl _ _ _ (first .number-of .ensures) (c .before .before .number-of2 .ensures) (c .before .number-of3 .ensures) _ (c .digit-for .ensures)
+    crossed _ _ _ _ (tests .is-crossing .ensures) (not-false _ (blank .before .if1 .left)) _ refl _ (blank .is-blank .ensures) (branch .if2 .left) _ _ refl refl _ _ _ (first .number-of .ensures) (c .before .before .number-of2 .ensures) (c .before .number-of3 .ensures) _ (c .lowest-digit .ensures)
 
 pub hemisphere-of-spec : {M : Type 1} → statement M
 hemisphere-of-spec =
@@ -98,5 +98,5 @@ hemisphere-of-spec =
     number-of-requires
     number-of-requires-2
     number-of-requires-3
-    digit-for-requires
+    lowest-digit-requires
     returns-3)

@@ -52,7 +52,7 @@ loop-again c =
     let below = turn .loop-test .taken in (
       omega arith,
       word-on (λ e. between 33 126 (getD line (startOf e) 0)) 86 _ _ (turn .before .loop .inv .1) _
-      (c .before .is-in .ensures ∙ ap (λ (j : ℕ). between 33 126 (getD line j 0)) (c .before .before .before .index .ensures ∙ start _ below)) _ (mask _ below) _ (c .bit .ensures),
+          (c .before .is-in .ensures ∙ ap (λ (j : ℕ). between 33 126 (getD line j 0)) (c .before .before .before .index .ensures ∙ start _ below)) _ (mask _ below) _ (c .bit .ensures),
     )
 
 returns : tie.Need-returns Inv-loop μ-loop

@@ -8,4 +8,3 @@ pub mod Demand2CallSign
 pub mod SignLaws
 pub mod PrintLaws
 pub mod LegalLaws
-pub mod GlanceLaws

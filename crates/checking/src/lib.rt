@@ -109,34 +109,12 @@ fn check_in_order(line: &[u8]) -> Answer
     }
 }
 
-// The edition of a record of which a glance tells that it is accepted. Unknown says nothing.
-fn at_a_glance(line: &[u8]) -> Named
-    ensures { λ r. ⌜ ((ed : Edition) → r ≡ Named.Known ed → checked (now (line .entry)) ≡ Answer.Accepted ed) ⌝ }
-{
-    if line.len() < 131 {
-        return Named::Unknown;
-    }
-    let digit = line[110];
-    match Edition::of_digit(digit) {
-        Named::Known(edition) => {
-            if line.len() != edition.length() {
-                return Named::Unknown;
-            }
-            if !glance::surely(edition, line) {
-                return Named::Unknown;
-            }
-            Named::Known(edition)
-        }
-        Named::Unknown => Named::Unknown,
-    }
-}
-
 // Checks a record: accepted, or the first rule that it breaks. Most records are accepted, and a glance
 // tells; the rules are gone through one by one only where it does not.
 pub fn check(line: &[u8]) -> Answer
     ensures { λ r. ⌜ r ≡ checked (now (line .entry)) ⌝ }
 {
-    match at_a_glance(line) {
+    match glance::edition_of(line) {
         Named::Known(edition) => Answer::Accepted(edition),
         Named::Unknown => check_in_order(line),
     }

@@ -4,18 +4,19 @@ use mathlib.Core.Path.{_≡_}
 use mathlib.Core.List.{List, [], _∷_, _++_}
 use mathlib.Core.Bool.{true, false}
 use lib.Dec.{eqb}
-use lib.ListN.{getD, take, drop}
+use lib.ListN.{length, getD, take, drop}
 use Rattle.text.specs.Bytes.{word}
 use Rattle.layout.specs.declared.Edition.{Edition}
 use Rattle.layout.specs.declared.Edition.the-variants.{One, Three, Four}
-use Rattle.layout.specs.Editions.{lastOf}
+use Rattle.layout.specs.Editions.{lengthOf, lastOf}
 use Rattle.layout.specs.Page.{legal}
 use Rattle.ties.specs.Ties.{tie}
 use Rattle.glance.specs.Tests.{neither, lastHighest, plusZero, topDigit, halfDigit, lastFits, needs, octantNear}
 use Rattle.glance.specs.Limits.{Limited}
 
--- what makes a text of the edition's length a record of it
+-- what makes a text a record of the edition
 pub record Sure (ed : Edition) (xs : List ℕ) : Type 0 where
+  pub full : length xs ≡ lengthOf ed
   pub lawful : (e : ℕ) → 1 ≤ e → e ≤ lastOf ed → legal ed xs e ≡ true
   pub tied : (k : ℕ) → tie ed xs k ≡ true
 

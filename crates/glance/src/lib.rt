@@ -2,7 +2,7 @@
 //
 // Most records are, and one look over them with hardly a branch is enough. First the columns, then the
 // numbers that have limits and the ties. A yes is proved; a no says nothing, and whoever asked has to
-// look for what is wrong. Each function but the last answers 0 where nothing is.
+// look for what is wrong. Each function but the last two answers 0 where nothing is.
 use faults::above;
 use faults::equal;
 use faults::other;
@@ -10,6 +10,7 @@ use faults::past;
 use faults::reaches;
 use faults::same;
 use layout::Edition;
+use layout::Named;
 ghost use mathlib.Core.Path.{_≡_};
 ghost use mathlib.Core.Bool.{true};
 ghost use Prim.Native.Nat.{_+_, _≤_};
@@ -251,8 +252,8 @@ fn alike(line: &[u8]) -> u8
             | (winds_off(line) | (falls_off(line) | (codes_off(line) | temperatures(line)))))
 }
 
-// Is a record of this length and this column 111 surely accepted? No says nothing.
-pub fn surely(edition: Edition, line: &[u8]) -> bool
+// Is a record of this length and this column 111 surely accepted?
+fn is_sure(edition: Edition, line: &[u8]) -> bool
     requires { ⌜ (length (now line) ≡ lengthOf edition) × (editionOf (getD (now line) 110 0) ≡ Known edition) ⌝ }
     ensures { λ r. ⌜ (r ≡ true → Sure edition (now (line .entry))) ⌝ }
 {
@@ -263,4 +264,25 @@ pub fn surely(edition: Edition, line: &[u8]) -> bool
         return false;
     }
     rest(edition, line) == 0
+}
+
+// The edition of a record that is surely accepted, for every byte string. Unknown says nothing.
+pub fn edition_of(line: &[u8]) -> Named
+    ensures { λ r. ⌜ ((ed : Edition) → r ≡ Named.Known ed → Sure ed (now (line .entry))) ⌝ }
+{
+    if line.len() < 131 {
+        return Named::Unknown;
+    }
+    match Edition::of_digit(line[110]) {
+        Named::Known(edition) => {
+            if line.len() != edition.length() {
+                return Named::Unknown;
+            }
+            if !is_sure(edition, line) {
+                return Named::Unknown;
+            }
+            Named::Known(edition)
+        }
+        Named::Unknown => Named::Unknown,
+    }
 }

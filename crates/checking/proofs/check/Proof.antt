@@ -1,11 +1,13 @@
 -- `checking::check` meets its contract. Assumes nothing.
 use mathlib.Core.Path.{sym}
 use borrow.Author.Needs.{needs}
+use Rattle.checking.proofs.Demand2Acceptance.{accepted-exactly}
+use Rattle.checking.proofs.LegalLaws.{legal-record}
 use Rattle.checking.proofs.check.Statement.{statement}
 use Rattle.checking.proofs.check.Tie as tie
 
-at-a-glance-requires : tie.Need-at-a-glance-requires
-at-a-glance-requires c κs = search needs
+edition-of-requires : tie.Need-edition-of-requires
+edition-of-requires c κs = search needs
 
 enum-known-edition : tie.Need-enum-known-edition
 enum-known-edition c = search needs
@@ -17,18 +19,12 @@ check-in-order-requires : tie.Need-check-in-order-requires
 check-in-order-requires c κs = search needs
 
 returns : tie.Need-returns
-returns c = sym (c .before .before .before .at-a-glance .ensures _ (c .before .edition .given .1))
+returns c =
+    let s = c .before .before .before .edition-of .ensures _ (c .before .edition .given .1) in
+    sym (accepted-exactly _ _ .1 (legal-record _ _ (s .full) (s .lawful) (λ k h l. s .tied k)))
 
 returns-2 : tie.Need-returns-2
 returns-2 c = search needs
 
 pub check-spec : {M : Type 1} → statement M
-check-spec =
-    tie.close
-    (tie.spec
-    at-a-glance-requires
-    enum-known-edition
-    enum-told
-    check-in-order-requires
-    returns
-    returns-2)
+check-spec = tie.close (tie.spec edition-of-requires enum-known-edition enum-told check-in-order-requires returns returns-2)

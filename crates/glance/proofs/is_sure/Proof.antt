@@ -1,4 +1,4 @@
--- `glance::surely` meets its contract. Assumes nothing.
+-- `glance::is_sure` meets its contract. Assumes nothing.
 use native.Mathlib.Omega.{arith}
 use mathlib.Core.Path.{sym}
 use mathlib.Core.Bool.{true≢false}
@@ -7,8 +7,8 @@ use Rattle.text.proofs.Bits.{or-left, or-right}
 use Rattle.layout.proofs.RecordLaws.{shortest}
 use Rattle.glance.proofs.Sound.{surely-sound}
 use borrow.Author.Needs.{needs}
-use Rattle.glance.proofs.surely.Statement.{statement}
-use Rattle.glance.proofs.surely.Tie as tie
+use Rattle.glance.proofs.is_sure.Statement.{statement}
+use Rattle.glance.proofs.is_sure.Tie as tie
 
 shared-requires : tie.Need-shared-requires
 shared-requires c κs = omega (arith, c .before .pre .0, shortest (c .before .args .edition))
@@ -38,8 +38,8 @@ returns-3 c = λ e.
     surely-sound _ _ (start .pre .0) (start .pre .1) (s .ensures (or-left (s .result) (a .result) none)) (a .ensures (or-right (s .result) (a .result) none))
     (c .before .before .own .ensures (c .before .if2 .left)) (c .rest .ensures (eqb-true _ _ e))
 
-pub surely-spec : {M : Type 1} → statement M
-surely-spec =
+pub is-sure-spec : {M : Type 1} → statement M
+is-sure-spec =
     tie.close
     (tie.spec
     shared-requires

@@ -1,0 +1,59 @@
+-- `glance::edition_of` meets its contract. Assumes nothing.
+use Rattle.glance.proofs.Sound.{none-said, said}
+use mathlib.Core.Path.{_∙_, sym}
+use borrow.Author.Tests.{not-false}
+use borrow.Author.Needs.{needs}
+use Rattle.glance.proofs.edition_of.Statement.{statement}
+use Rattle.glance.proofs.edition_of.Tie as tie
+
+returns : tie.Need-returns
+returns c = λ ed e. none-said ed e
+
+shared-slice-read-of-digit : tie.Need-shared-slice-read-of-digit
+shared-slice-read-of-digit c = search needs
+
+of-digit-requires : tie.Need-of-digit-requires
+of-digit-requires c κs = search needs
+
+enum-known-edition : tie.Need-enum-known-edition
+enum-known-edition c = search needs
+
+length-requires : tie.Need-length-requires
+length-requires c κs = search needs
+
+returns-2 : tie.Need-returns-2
+returns-2 c = λ ed e. none-said ed e
+
+is-sure-requires : tie.Need-is-sure-requires
+is-sure-requires c κs =
+    let named = c .before .before .before in
+    (c .if2 .left ∙ c .before .length .ensures, sym (named .before .before .of-digit .ensures) ∙ named .edition .given .1)
+
+returns-3 : tie.Need-returns-3
+returns-3 c = λ ed e. none-said ed e
+
+enum-told : tie.Need-enum-told
+enum-told c = search needs
+
+returns-4 : tie.Need-returns-4
+returns-4 c = λ ed e.
+    said _ _ ed e (c .before .is-sure .ensures (not-false _ (c .if3 .left)))
+
+returns-5 : tie.Need-returns-5
+returns-5 c = λ ed e. none-said ed e
+
+pub edition-of-spec : {M : Type 1} → statement M
+edition-of-spec =
+    tie.close
+    (tie.spec
+    returns
+    shared-slice-read-of-digit
+    of-digit-requires
+    enum-known-edition
+    length-requires
+    returns-2
+    is-sure-requires
+    returns-3
+    enum-told
+    returns-4
+    returns-5)

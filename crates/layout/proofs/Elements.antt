@@ -34,10 +34,10 @@ module _ (at e d : ℕ) (stands : at ≡ startOf e) (wide : d ≡ widthOf e) whe
   unfolding textOf
   part xs = rw (add-sub-cancel-left at d, stands, wide)
 
--- the test of an element's text by the texts of its edition
-pub legal-of : (ed : Edition) (xs t : List ℕ) (e : ℕ) (texts : Texts) → texts ≡ textsOf ed e → t ≡ textOf e xs → (r : Bool) → r ≡ ((mayBeBlank e && blank t) || allows texts t) → r ≡ legal ed xs e
+-- what a test of its text says of an element
+pub legal-of : (ed : Edition) (xs t : List ℕ) (e : ℕ) → t ≡ textOf e xs → (r : Bool) → r ≡ legalText ed e t → r ≡ legal ed xs e
 unfolding legal
-legal-of ed xs t e texts l f r g = g ∙ rw (l, f)
+legal-of ed xs t e f r g = g ∙ ap (legalText ed e) f
 
 -- an element whose texts are the same in all editions
 pub in-each : (ed : Edition) (e : ℕ) (s : Texts) → element e .in1 ≡ s → element e .in3 ≡ s → element e .in4 ≡ s → textsOf ed e ≡ s

@@ -4,17 +4,14 @@
 // element and the first for none, so that a loop reads one byte for each.
 use crate::Edition;
 use crate::legal_texts;
-use text::Texts;
 ghost use mathlib.Core.Path.{_≡_};
-ghost use mathlib.Core.Bool.{true, _&&_, _||_};
-ghost use mathlib.Core.List.{[], _∷_};
+ghost use mathlib.Core.Bool.{_&&_};
 ghost use Prim.Native.Nat.{_≤_, _-_};
 ghost use lib.ListN.{length, take, drop};
-ghost use Rattle.text.specs.Bytes.{every, between, blank};
-ghost use Rattle.text.specs.Texts.{allows};
+ghost use Rattle.text.specs.Bytes.{blank};
 ghost use Rattle.text.specs.First.{firstOf};
 ghost use Rattle.layout.specs.Editions.{lengthOf, lastOf};
-ghost use Rattle.layout.specs.Page.{WidthRow, widthOf, startOf, textOf, mayBeBlank, legal};
+ghost use Rattle.layout.specs.Page.{WidthRow, widthOf, startOf, textOf, mayBeBlank, legalText, legal};
 
 // The widths, a digit for each.
 pub fn widths() -> [u8; 102]
@@ -64,12 +61,12 @@ fn is_missing(e: usize, text: &[u8]) -> bool
     may_be_blank(e) && text::is_blank(text)
 }
 
-// Is it that, or one of the legal texts?
-fn is_legal(e: usize, legal: Texts, text: &[u8]) -> bool
+// Is it that, or legal in the edition?
+fn is_legal(edition: Edition, e: usize, text: &[u8]) -> bool
     requires { ⌜ length (now text) ≤ 7 ⌝ }
-    ensures { λ r. ⌜ r ≡ ((mayBeBlank e && blank (now (text .entry))) || allows legal (now (text .entry))) ⌝ }
+    ensures { λ r. ⌜ r ≡ legalText edition e (now (text .entry)) ⌝ }
 {
-    is_missing(e, text) || text::is_one(legal, text)
+    is_missing(e, text) || text::is_one(legal_texts::texts_in(edition, e), text)
 }
 
 // The lowest element that is neither blank nor legal, or 0.
@@ -83,7 +80,7 @@ pub fn first_illegal(edition: Edition, line: &[u8]) -> usize
     let mut e = 1;
     while e <= last {
         let end = at + digit(widths[e]);
-        if !is_legal(e, legal_texts::texts_in(edition, e), &line[at..end]) {
+        if !is_legal(edition, e, &line[at..end]) {
             return e;
         }
         at = end;
@@ -132,8 +129,7 @@ pub fn width_of(e: usize) -> usize
 
 // Is element e blank, where it may be, or legal?
 pub fn is_legal_at(edition: Edition, line: &[u8], e: usize) -> bool
-    requires { ⌜ e ≤ 101 ⌝ }
     ensures { λ r. ⌜ r ≡ legal edition (now (line .entry)) e ⌝ }
 {
-    is_legal(e, legal_texts::texts_in(edition, e), text_of(line, e))
+    is_legal(edition, e, text_of(line, e))
 }

@@ -39,13 +39,12 @@ ends c =
 
 -- what the test answers
 abbrev tested : tie.After-is-legal Inv-loop μ-loop → tie.In-loop Inv-loop μ-loop
-tested c = let digit = c .before .before .before in digit .before
+tested c = c .before .before .before
 
 answers : (c : tie.After-is-legal Inv-loop μ-loop) →
     c .is-legal .result ≡ legal (call (tested c .before) .args .edition) (call (tested c .before) .args .line .now) (tested c .before .loop .e)
 answers c =
-    let texts = c .before .before in
-    legal-of _ _ _ _ _ (texts .texts-in .ensures) (part _ _ _ (tested c .before .loop .inv .1 .0) (wide (texts .before)) _) _ (c .is-legal .ensures)
+    legal-of _ _ _ _ (part _ _ _ (tested c .before .loop .inv .1 .0) (wide (c .before .before)) _) _ (c .is-legal .ensures)
 
 -- the whole, with the edition's last element
 whole : (c : tie.At-loop Inv-loop μ-loop) →
@@ -72,9 +71,6 @@ digit-requires c κs = search needs
 add-end : tie.Need-add-end Inv-loop μ-loop
 add-end c = omega (arith, ends c)
 
-texts-in-requires : tie.Need-texts-in-requires Inv-loop μ-loop
-texts-in-requires c κs = search needs
-
 sub-is-legal : tie.Need-sub-is-legal Inv-loop μ-loop
 sub-is-legal c = search needs
 
@@ -82,10 +78,10 @@ part-is-legal-start : tie.Need-part-is-legal-start Inv-loop μ-loop
 part-is-legal-start c = search needs
 
 part-is-legal-end : tie.Need-part-is-legal-end Inv-loop μ-loop
-part-is-legal-end c = ends (c .before)
+part-is-legal-end c = ends c
 
 is-legal-requires : tie.Need-is-legal-requires Inv-loop μ-loop
-is-legal-requires c κs = let digit = c .before .before in own-width _ _ _ (part _ _ _ (digit .before .before .loop .inv .1 .0) (wide digit) _)
+is-legal-requires c κs = let digit = c .before in own-width _ _ _ (part _ _ _ (digit .before .before .loop .inv .1 .0) (wide digit) _)
 
 returns : tie.Need-returns Inv-loop μ-loop
 returns c =
@@ -100,11 +96,10 @@ loop-less c = search needs
 
 loop-again : tie.Need-loop-again Inv-loop μ-loop
 loop-again c =
-    let test = tested (c .before) in
-    let texts = c .before .before .before in (
+    let test = tested (c .before) in (
       omega arith,
       (
-        next _ _ _ (test .before .loop .inv .1 .0) (wide (texts .before)),
+        next _ _ _ (test .before .loop .inv .1 .0) (wide (c .before .before .before)),
         test .before .loop .inv .1 .1 ∙ on (legal _ _) _ _ (test .loop-test .taken) (sym (answers (c .before)) ∙ not-false _ (c .if1 .left)),
       ),
     )
@@ -124,7 +119,6 @@ first-illegal-spec =
     array-read-digit
     digit-requires
     add-end
-    texts-in-requires
     sub-is-legal
     part-is-legal-start
     part-is-legal-end

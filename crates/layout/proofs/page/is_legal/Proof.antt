@@ -1,11 +1,17 @@
 -- `layout::page::is_legal` meets its contract. Assumes nothing.
 use Rattle.text.proofs.Ways.{or-goes-on, or-holds}
+use Rattle.text.specs.Texts.{allows}
+use Rattle.text.specs.declared.Texts.{Texts}
 use borrow.Author.Needs.{needs}
+use mathlib.Core.Path.{_∙_, ap}
 use Rattle.layout.proofs.page.is_legal.Statement.{statement}
 use Rattle.layout.proofs.page.is_legal.Tie as tie
 
 is-missing-requires : tie.Need-is-missing-requires
 is-missing-requires c κs = search needs
+
+texts-in-requires : tie.Need-texts-in-requires
+texts-in-requires c κs = search needs
 
 is-one-requires : tie.Need-is-one-requires
 is-one-requires c κs = search needs
@@ -14,7 +20,10 @@ returns : tie.Need-returns
 returns c = or-holds _ _ (c .before .is-missing .ensures) _ (c .if1 .taken)
 
 returns-2 : tie.Need-returns-2
-returns-2 c = or-goes-on _ _ (c .before .before .is-missing .ensures) _ _ (c .before .if1 .left) (c .is-one .ensures)
+returns-2 c =
+    let tested = c .before .before in
+    or-goes-on _ _ (tested .before .is-missing .ensures) _ _ (tested .if1 .left)
+    (c .is-one .ensures ∙ ap (λ (s : Texts). allows s (tested .before .before .before .args .text .now)) (c .before .texts-in .ensures))
 
 pub is-legal-spec : {M : Type 1} → statement M
-is-legal-spec = tie.close (tie.spec is-missing-requires is-one-requires returns returns-2)
+is-legal-spec = tie.close (tie.spec is-missing-requires texts-in-requires is-one-requires returns returns-2)

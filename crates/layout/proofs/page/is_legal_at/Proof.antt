@@ -4,9 +4,6 @@ use borrow.Author.Needs.{needs}
 use Rattle.layout.proofs.page.is_legal_at.Statement.{statement}
 use Rattle.layout.proofs.page.is_legal_at.Tie as tie
 
-texts-in-requires : tie.Need-texts-in-requires
-texts-in-requires c κs = search needs
-
 text-of-requires : tie.Need-text-of-requires
 text-of-requires c κs = search needs
 
@@ -14,9 +11,9 @@ is-legal-requires : tie.Need-is-legal-requires
 is-legal-requires c κs = search needs
 
 returns : tie.Need-returns
-returns c = legal-of _ _ _ _ _ (c .before .before .texts-in .ensures) (c .before .text-of .ensures .0) _ (c .is-legal .ensures)
+returns c = legal-of _ _ _ _ (c .before .text-of .ensures .0) _ (c .is-legal .ensures)
 
 pub is-legal-at-spec : {M : Type 1} → statement M
 is-legal-at-spec =
     tie.close
-    (tie.spec texts-in-requires text-of-requires is-legal-requires returns)
+    (tie.spec text-of-requires is-legal-requires returns)

@@ -1,5 +1,5 @@
--- The legal texts of an element: the flags are runs of elements that are one and the same, and a number that no arm of a match names lies behind the numbers
--- that the arms name. Assumes nothing.
+-- The legal texts of an element, as a match over its number gives them: those that are the same in all editions, the runs of flags, and no element. Assumes
+-- nothing.
 use mathlib.Core.Path.{_≡_, refl, sym, ap, _∙_}
 use mathlib.Core.List.{List}
 use Prim.Native.Nat.{ℕ, zero, suc, _+_, _-_, _<_, _≤_}
@@ -36,6 +36,7 @@ module _ (ed : Edition) (e : ℕ) (r : Texts) where
       let is : x ≡ element e = sym (getD-replicate n (e - k) x none (omega arith)) ∙ ap (λ (p : List Element). getD p (e - k) none) (sym same) ∙ in-part k n e l h in
       g ∙ ap (textsIn ed) is
 
+  -- elements 66 to 85 are flags, and 94 to 101 flags that edition 1 does not have
   pub flags : 66 ≤ e → e < 86 → r ≡ textsIn ed flag → r ≡ textsOf ed e
   unfolding page
   flags l h g = run 66 20 flag refl l h g

@@ -174,7 +174,7 @@ startOf e = columns (take e elements)
 unfoldable pub textOf : ℕ → List ℕ → List ℕ
 textOf e xs = take (widthOf e) (drop (startOf e) xs)
 
--- the texts of an edition, of those of the three
+-- the texts of an edition, where s, t and u are those of the editions 1, 3 and 4
 abbrev pub inEdition : Edition → Texts → Texts → Texts → Texts
 inEdition One s t u = s
 inEdition Three s t u = t

@@ -1,6 +1,7 @@
 // What may be written in an element, for the check of a record.
 //
-// `page` of specs/Page.antt is the page; here it stands an element a line, as there.
+// `page` of specs/Page.antt is the page. Here it stands an element a line, as there, but for the
+// flags, which are alike. A glance tells most records; this is asked where it does not.
 use crate::Edition;
 use text::Texts;
 use text::Texts::CallSign;
@@ -14,7 +15,7 @@ use text::Texts::Within;
 ghost use mathlib.Core.Path.{_≡_};
 ghost use Rattle.layout.specs.Page.{inEdition, textsOf};
 
-// The texts of the edition, where they go by it.
+// Which of the three editions' texts are those of this one.
 fn in_edition(edition: Edition, in1: Texts, in3: Texts, in4: Texts) -> Texts
     ensures { λ r. ⌜ r ≡ inEdition edition in1 in3 in4 ⌝ }
 {

@@ -1,8 +1,8 @@
 -- The two words are those of the elements lost. Assumes nothing.
 use mathlib.Core.Path.{_≡_, refl, sym, ap, ap₂, _∙_}
-use mathlib.Core.Bool.{Bool, true, false, cond, _&&_, _||_}
+use mathlib.Core.Bool.{Bool, true, false, _||_}
 use mathlib.Core.List.{List}
-use mathlib.Core.Logic.{_⊎_, inl, inr, ⊎-elim}
+use mathlib.Core.Logic.{_⊎_, inl, inr}
 use Prim.Native.Nat.{ℕ, _+_, _<_, _≤_}
 use native.Mathlib.Omega.{arith}
 use borrow.Author.Tests.{leb-true, leb-false}
@@ -11,7 +11,6 @@ use lib.Dec.{leb}
 use lib.ListN.{length, getD, List·getD-eq-default}
 use Rattle.text.specs.Bytes.{every}
 use Rattle.losses.specs.Losses.{word, losses, lossesOf}
-use Rattle.losses.specs.declared.Losses.{Losses}
 use Rattle.losses.proofs.Listed.{same-word, no-word}
 use Rattle.losses.proofs.Ways.{up-to-or-past}
 use Rattle.layout.specs.declared.Edition.{Edition}

@@ -2,18 +2,17 @@
 use mathlib.Core.Path.{_≡_, refl, sym, ap, _∙_, subst}
 use mathlib.Core.Bool.{Bool, true, false, cond, not, _&&_, _||_, true≢false}
 use mathlib.Core.List.{List, [], _∷_}
-use mathlib.Core.Logic.{_⊎_, inl, inr, ⊎-elim}
+use mathlib.Core.Logic.{_⊎_, inl, inr}
 use Prim.Native.Nat.{ℕ, _+_, _-_, _<_, _≤_}
 use native.Mathlib.Nat.{add-zero}
 use native.Mathlib.Omega.{arith}
 use borrow.Author.Tests.{eqb-true, ne-eqb, leb-true, le-leb}
-use lib.Dec.{eqb, leb, lit≤}
+use lib.Dec.{eqb, leb}
 use lib.ListN.{length, getD, take, drop, length-drop}
 use lib.Seq.{getD-take, getD-drop, length-take-le}
-use Rattle.text.specs.Bytes.{every, between, printable, blank}
+use Rattle.text.specs.Bytes.{between, printable, blank}
 use Rattle.text.specs.Texts.{allows}
 use Rattle.text.specs.First.{firstFrom}
-use Rattle.text.specs.declared.Texts.{Texts}
 use Rattle.text.specs.declared.Texts.the-variants.{CallSign}
 use Rattle.text.proofs.Blanks.{only-blank}
 use Rattle.text.proofs.Every.{every-at}
@@ -32,7 +31,7 @@ use Rattle.layout.proofs.Elements.{in-each}
 use Rattle.layout.proofs.Lacking.{nothing-there}
 use Rattle.checking.proofs.PrintLaws.{legal-prints}
 use Rattle.hemispheres.specs.Digits.{isFirst, crosses}
-use Rattle.meanings.specs.Meaning.{hasSenses, senseOf, sameSense}
+use Rattle.meanings.specs.Meaning.{hasSenses, senseOf}
 use Rattle.meanings.specs.Kept.{keeps, lostText, lostAt}
 use Rattle.meanings.proofs.KeepLaws.{alike-kept, early-kept, added-kept}
 use Rattle.blanking.specs.Columns.{lostIn, named}

@@ -2,8 +2,8 @@
 use mathlib.Core.Path.{_≡_, refl, sym, ap, _∙_}
 use mathlib.Core.Bool.{Bool, true, false, cond, not, _&&_, _||_}
 use mathlib.Core.List.{List, [], _∷_}
-use mathlib.Core.Logic.{_⊎_, inl, inr}
-use Prim.Native.Nat.{ℕ, suc, _+_, _-_, _*_, _^_, _<_, _≤_}
+use mathlib.Core.Logic.{inl, inr}
+use Prim.Native.Nat.{ℕ, _+_, _-_, _*_, _^_, _<_, _≤_}
 use native.Mathlib.Nat.{add-zero}
 use native.Mathlib.Numerals.{add-one}
 use native.Mathlib.Omega.{arith}
@@ -19,7 +19,7 @@ use Rattle.losses.specs.Losses.{bit, word}
 use Rattle.losses.proofs.Joined.{or-words, moved-word, placed-word}
 use Rattle.losses.proofs.Listed.{Agree, same-word, no-word}
 use Rattle.losses.proofs.Words.{word-set, word-not-set}
-use Rattle.layout.specs.Page.{page, element, columns, widthOf, startOf}
+use Rattle.layout.specs.Page.{page, element, columns, startOf}
 use Rattle.layout.proofs.Columns.{start-next, start-rises, start-below}
 use Rattle.blanking.specs.Columns.{run, named}
 use Rattle.blanking.proofs.Blanked.{within, beside}

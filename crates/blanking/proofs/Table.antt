@@ -1,11 +1,11 @@
 -- Which byte of an element of one column is lost: antt computes over the page, for each two editions, that it is lost exactly where its column loses it. Assumes nothing.
 use mathlib.Core.Path.{_≡_, refl, sym, ap, _∙_}
 use mathlib.Core.Bool.{Bool, true, false, cond, not, _&&_, _||_, Bool·beq, true≢false}
-use mathlib.Core.List.{List, [], _∷_}
-use Prim.Native.Nat.{ℕ, zero, suc, _+_, _-_, _<_, _≤_}
+use mathlib.Core.List.{[], _∷_}
+use Prim.Native.Nat.{ℕ, _+_, _-_, _≤_}
 use native.Mathlib.Omega.{arith}
 use borrow.Author.Tests.{eqb-true}
-use lib.Dec.{eqb, leb, lit≤}
+use lib.Dec.{eqb, leb}
 use Rattle.text.specs.Bytes.{every, between, valueFrom, run}
 use Rattle.text.specs.Texts.{allows}
 use Rattle.text.specs.First.{firstFrom}

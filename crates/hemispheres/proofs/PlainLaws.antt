@@ -1,8 +1,7 @@
 -- A plain place has one digit in each edition, by its hemispheres and the side of 90 degrees, so the lowest one is that. Assumes nothing.
 use mathlib.Core.Path.{_≡_, refl, sym, ap, _∙_}
 use mathlib.Core.Bool.{Bool, true, false, cond, not, _&&_, Bool·beq}
-use mathlib.Core.Logic.{⊎-elim}
-use Prim.Native.Nat.{ℕ, _+_, _-_, _%_, _<_, _≤_}
+use Prim.Native.Nat.{ℕ, _-_, _%_, _<_, _≤_}
 use native.Mathlib.Omega.{arith}
 use borrow.Author.Tests.{eq-eqb, ne-eqb, le-leb, lt-leb, ltb-true, ltb-false}
 use lib.Dec.{eqb, leb, ltb}
@@ -14,9 +13,8 @@ use Rattle.layout.specs.declared.Edition.{Edition}
 use Rattle.layout.specs.declared.Edition.the-variants.{One, Three, Four}
 use Rattle.layout.specs.Page.{element, page}
 use Rattle.ties.specs.Ties.{octantFits}
-use Rattle.signs.specs.Signed.{signed}
 use Rattle.reading.specs.Readings.{south, west, east}
-use Rattle.hemispheres.specs.Digits.{sameSigned, keepsTie, mayStand, suits, lowestDigit}
+use Rattle.hemispheres.specs.Digits.{keepsTie, mayStand, suits, lowestDigit}
 use Rattle.hemispheres.specs.Plain.{Plain, digitIn}
 use Rattle.hemispheres.proofs.DigitLaws.{off-equator}
 

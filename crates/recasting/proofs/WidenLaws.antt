@@ -7,15 +7,11 @@ use native.Mathlib.Omega.{arith}
 use borrow.Author.Tests.{ne-eqb, leb-true, leb-false}
 use lib.Dec.{leb}
 use lib.ListN.{length, take, drop, length-append}
-use lib.Seq.{take-length, take-at, drop-append-add}
+use lib.Seq.{take-at, drop-append-add}
 use Rattle.text.specs.Bytes.{every, between, blank}
 use Rattle.text.proofs.Ways.{and-first, and-second}
-use Rattle.numerals.specs.Spelling.{spelled}
 use Rattle.numerals.proofs.Spellings.{spelled-length, blanks-blank}
-use Rattle.losses.specs.Losses.{lossesOf}
-use Rattle.losses.proofs.Demand3Losses.{same-losses}
 use Rattle.layout.specs.declared.Edition.{Edition}
-use Rattle.layout.specs.declared.Edition.the-variants.{One, Three, Four}
 use Rattle.layout.specs.Editions.{lengthOf, lastOf}
 use Rattle.layout.specs.Page.{widthOf, startOf, textOf, legalText, legal}
 use Rattle.layout.proofs.Beyond.{last-above, text-none}

@@ -2,7 +2,6 @@
 use borrow.Author.Needs.{needs}
 use mathlib.Core.Path.{refl}
 use mathlib.Core.Bool.{false}
-use native.Mathlib.Omega.{arith}
 use Rattle.blanking.specs.Columns.{laterLost}
 use Rattle.blanking.proofs.NameLaws.{joined, standard-word, later-word, none-named, some-named}
 use Rattle.blanking.proofs.names.name_later.Statement.{statement}

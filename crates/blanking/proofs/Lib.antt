@@ -1,6 +1,5 @@
 -- The laws that the functions of this crate cite.
 pub mod Blanked
-pub mod StepLaws
 pub mod Table
 pub mod Filled
 pub mod Steps

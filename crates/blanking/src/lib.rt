@@ -40,12 +40,12 @@ fn is_leaving(from: Edition, to: Edition) -> bool
     is_fourth(from) && !is_fourth(to)
 }
 
-// Is the byte one from low to high? One comparison, so that many bytes can be tested at a time.
+// Is the byte one from low to high?
 fn is_in(b: u8, low: u8, high: u8) -> bool
     requires { ⌜ low ≤ high ⌝ }
     ensures { λ r. ⌜ r ≡ between low high b ⌝ }
 {
-    std::num::wrapping_sub_u8(b, low) <= std::num::wrapping_sub_u8(high, low)
+    faults::strays(b, low, high) == 0
 }
 
 // A blank where the byte is lost.

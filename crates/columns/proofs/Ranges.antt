@@ -3,6 +3,7 @@ use mathlib.Core.Path.{_≡_, refl, sym, ap, _∙_, subst}
 use mathlib.Core.Bool.{Bool, true, false, not, Bool·beq}
 use mathlib.Core.List.{List, [], _∷_, map}
 use Prim.Native.Nat.{ℕ, _+_, _-_, _<_, _≤_}
+use native.Mathlib.Nat.{le-refl}
 use native.Mathlib.Omega.{arith}
 use borrow.Author.Tests.{ltb-true, ltb-false}
 use lib.Bits.{bitOr}
@@ -64,9 +65,13 @@ onward {ed} {xs} a b f g l k h t = by (ltb k a) refl
     by false e = g k (omega (arith, ltb-false k a e)) t
 
 -- one column, which is bound to none
-pub last-of : (ed : Edition) (xs : List ℕ) (k : ℕ) → fits (cellAt ed k) (getD xs k 0) ≡ true → bondAt k ≡ 46 → Range ed xs k (k + 1)
+last-of : (ed : Edition) (xs : List ℕ) (k : ℕ) → fits (cellAt ed k) (getD xs k 0) ≡ true → bondAt k ≡ 46 → Range ed xs k (k + 1)
 unfolding joined
 last-of ed xs k h b j l t = let here : k ≡ j = omega arith in subst (Column ed xs) here (record { held = h; bound = rw b (second-holds (Bool·beq (not (eqb (getD xs k 0) 32)) (not (eqb (getD xs (k + 1) 0) 32))) _ refl) })
+
+-- sixteen columns and the one after them, which is the last
+pub to-last : (ed : Edition) (xs : List ℕ) (from k : ℕ) (p o : ℕ) → (p ≡ 0 → Range ed xs from k) → o ≡ no (fits (cellAt ed k) (getD xs k 0)) → bondAt k ≡ 46 → bitOr p o ≡ 0 → Range ed xs from (k + 1)
+to-last ed xs from k p o f g b z = onward k k (f (or-left p o z)) (last-of ed xs k (passed _ g (or-right p o z)) b) (le-refl k)
 
 -- all columns, from those that are shared and an edition's own
 pub cover : (ed : Edition) (xs : List ℕ) → Shared xs → Own ed xs → Columns ed xs

@@ -45,6 +45,12 @@ unfolding no
 passed true e z = refl
 passed false e z = absurd (omega (arith, e, z))
 
+-- a test asked by its 0
+pub is-none : {x : ℕ} (p : Bool) → x ≡ no p → eqb x 0 ≡ p
+unfolding no
+is-none true e = rw e
+is-none false e = rw e
+
 -- of two sums of what is wrong nothing is
 pub two-of : {P Q : Type 0} (x y : ℕ) → (x ≡ 0 → P) → (y ≡ 0 → Q) → bitOr x y ≡ 0 → P × Q
 two-of x y f g z = (f (or-left x y z), g (or-right x y z))

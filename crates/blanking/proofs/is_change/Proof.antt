@@ -1,6 +1,7 @@
 -- `blanking::is_change` meets its contract. Assumes nothing.
+use mathlib.Core.Path.{ap, ap₂, _∙_}
+use mathlib.Core.Bool.{not, Bool·beq}
 use borrow.Author.Needs.{needs}
-use Rattle.blanking.proofs.StepLaws.{in-another}
 use Rattle.blanking.proofs.is_change.Statement.{statement}
 use Rattle.blanking.proofs.is_change.Tie as tie
 
@@ -14,7 +15,7 @@ same-requires : tie.Need-same-requires
 same-requires c κs = search needs
 
 returns : tie.Need-returns
-returns c = in-another (c .before .before .before .args .from) (c .before .before .before .args .to) _ _ _ (c .before .before .is-fourth .ensures) (c .before .is-fourth2 .ensures) (c .same .ensures)
+returns c = ap not (c .same .ensures ∙ ap₂ Bool·beq (c .before .before .is-fourth .ensures) (c .before .is-fourth2 .ensures))
 
 pub is-change-spec : {M : Type 1} → statement M
 is-change-spec = tie.close (tie.spec is-fourth-requires is-fourth-requires-2 same-requires returns)

@@ -3,8 +3,8 @@
 // The tables are rows of characters to be held against the page: the lowest and the highest character
 // of a column, a second run of characters, and the bond with the next column: '=' where both are blank
 // or both are filled, '>' where no character stands after a blank, '.' where the next is free. A blank
-// may stand anywhere. They are no second page: that each row is the page's own is computed from it, and
-// what a part is asked of is that alone. Each function answers 0 where nothing strays.
+// may stand anywhere. They are no second page: `part` promises something of rows that are the page's own
+// alone, and that these are is computed. Each function answers 0 where nothing strays.
 pub mod four;
 pub mod one;
 pub mod three;
@@ -60,7 +60,7 @@ pub fn part(
     bad
 }
 
-// Columns 17 to 32: clouds, sight, wind and air.
+// Columns 17 to 32: the end of the longitude, height and sight, clouds, wind and air.
 fn wind(line: &[u8]) -> u8
     requires { ⌜ 131 ≤ length (now line) ⌝ }
     ensures { λ z. ⌜ (z ≡ 0 → (ed : Edition) → Range ed (now (line .entry)) 16 32) ⌝ }
@@ -76,7 +76,7 @@ fn wind(line: &[u8]) -> u8
     )
 }
 
-// Columns 33 to 48: dew point, pressure, weather and clouds.
+// Columns 33 to 48: the end of air, dew point, pressure, weather and clouds.
 fn weather(line: &[u8]) -> u8
     requires { ⌜ 131 ≤ length (now line) ⌝ }
     ensures { λ z. ⌜ (z ≡ 0 → (ed : Edition) → Range ed (now (line .entry)) 32 48) ⌝ }

@@ -19,7 +19,7 @@ ghost use Rattle.text.specs.Bytes.{word};
 ghost use Rattle.faults.specs.Faults.{no};
 ghost use Rattle.layout.specs.declared.Named.the-variants.{Known};
 ghost use Rattle.layout.specs.Editions.{editionOf, lengthOf};
-ghost use Rattle.glance.specs.Tests.{inLimit, neither, lastHighest, plusZero, topDigit, halfDigit, lastFits, needs, octantNear};
+ghost use Rattle.glance.specs.Tests.{inLimit, neither, lastHighest, plusZero, topDigit, halfDigit, needs, octantNear};
 ghost use Rattle.glance.specs.Sure.{dates, places, winds, falls, courses, Limits, Codes, Temperature, Temperatures, Alike, Rest, Sure};
 
 // A byte as a number.
@@ -103,8 +103,7 @@ fn places_off(line: &[u8]) -> u8
         | four_off(line, 15, 0x31383030, 0x30303030, 0x30303030)
 }
 
-// VV not from 51 to 55, dd to 36 or 99, PPPP not from 1000 to 7999. No digits pass the top that is
-// none.
+// VV not from 51 to 55, dd to 36 or 99, PPPP not from 1000 to 7999. A top that no bytes reach is none.
 fn winds_off(line: &[u8]) -> u8
     requires { ⌜ 131 ≤ length (now line) ⌝ }
     ensures { λ z. ⌜ (z ≡ 0 → Limits winds (now (line .entry))) ⌝ }

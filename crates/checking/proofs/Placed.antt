@@ -1,12 +1,15 @@
 -- The byte in a column, as the code reads it. Assumes nothing.
 use mathlib.Core.Path.{_≡_, refl, sym, ap, _∙_}
-use mathlib.Core.Bool.{true, false}
+use mathlib.Core.Bool.{true}
 use mathlib.Core.List.{List, [], _∷_}
 use Prim.Native.Nat.{ℕ, zero, suc, _-_, _<_, _≤_}
 use native.Mathlib.Nat.{le-of-suc-le-suc, not-suc-le-zero}
 use native.Mathlib.Omega.{arith}
-use borrow.Author.Tests.{le-leb, lt-leb}
 use lib.ListN.{length, getD, List·getD-eq-default}
+use lib.Dec.{eqb}
+use Rattle.text.specs.Bytes.{printable}
+use Rattle.faults.specs.Faults.{no}
+use Rattle.faults.proofs.Joins.{is-none}
 use Rattle.checking.specs.Check.{column, printableAt}
 
 -- what stands at a place within a list is the same whatever stands past its end
@@ -33,13 +36,6 @@ pub blank-zero : (xs : List ℕ) → printableAt xs 0 ≡ true
 unfolding column
 blank-zero xs = refl
 
--- a byte that is printable, too low, or too high
-module _ (xs : List ℕ) (c : ℕ) (h : 1 ≤ c) (l : c ≤ length xs) where
-  pub too-low : getD xs (c - 1) 0 < 32 → printableAt xs c ≡ false
-  too-low a = rw (column-at xs c h l, lt-leb _ _ a)
-
-  pub too-high : 32 ≤ getD xs (c - 1) 0 → 126 < getD xs (c - 1) 0 → printableAt xs c ≡ false
-  too-high a b = rw (column-at xs c h l, le-leb _ _ a, lt-leb _ _ b)
-
-  pub prints : 32 ≤ getD xs (c - 1) 0 → getD xs (c - 1) 0 ≤ 126 → printableAt xs c ≡ true
-  prints a b = rw (column-at xs c h l, le-leb _ _ a, le-leb _ _ b)
+-- what the test of a byte says of its column
+pub printed : (xs : List ℕ) (c : ℕ) → 1 ≤ c → c ≤ length xs → {r : ℕ} → r ≡ no (printable (getD xs (c - 1) 0)) → eqb r 0 ≡ printableAt xs c
+printed xs c h l e = is-none _ e ∙ ap printable (sym (column-at xs c h l))

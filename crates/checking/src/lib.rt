@@ -2,13 +2,14 @@
 //
 // A call takes every byte string and comes back: the record is only read, and whatever is wrong with
 // it is the answer. `checked` of specs/Check.antt says which answer.
+use faults::strays;
 use layout::Edition;
 use layout::Named;
 use layout::Refusal;
 ghost use mathlib.Core.Path.{_≡_};
 ghost use lib.ListN.{length};
 ghost use Rattle.text.specs.First.{firstOf};
-ghost use Rattle.checking.specs.Check.{knownLength, printableAt, knownFormat, checkedIn, checked, answerNumber, answerPlace, callSignOf};
+ghost use Rattle.checking.specs.Check.{knownLength, printableAt, checkedIn, checked, answerNumber, answerPlace, callSignOf};
 
 // What checking a record answers.
 pub enum Answer {
@@ -46,24 +47,13 @@ fn is_known_length(n: usize) -> bool
     n == 131 || n == 159
 }
 
-// May the byte stand in column 1?
-fn is_known_format(b: u8) -> bool
-    ensures { λ r. ⌜ r ≡ knownFormat b ⌝ }
-{
-    51 <= b && b <= 53
-}
-
 // The lowest column that holds no printable character, or 0.
 fn first_unprintable(line: &[u8]) -> usize
     ensures { λ r. ⌜ r ≡ firstOf (length (now (line .entry))) (printableAt (now (line .entry))) ⌝ }
 {
     let mut c = 1;
     while c <= line.len() {
-        let b = line[c - 1];
-        if b < 32 {
-            return c;
-        }
-        if 126 < b {
+        if strays(line[c - 1], 32, 126) != 0 {
             return c;
         }
         c += 1;
@@ -100,7 +90,7 @@ fn check_in_order(line: &[u8]) -> Answer
     if c != 0 {
         return Answer::Refused(Refusal::Unprintable(c));
     }
-    if !is_known_format(line[0]) {
+    if strays(line[0], b'3', b'5') != 0 {
         return Answer::Refused(Refusal::Format);
     }
     match Edition::of_digit(line[110]) {

@@ -1,20 +1,13 @@
 -- Demand 3, column 12: every edition has a digit for every place, poles, equator and both forms of the date line with them. The one taken is the lowest that may stand there, gives the same signed latitude and the same east longitude, and keeps tie 2. Assumes nothing.
 use mathlib.Core.Path.{_≡_, refl, sym, ap, _∙_}
 use mathlib.Core.Bool.{Bool, true, false, true≢false}
-use mathlib.Core.List.{[], _∷_}
 use Prim.Native.Nat.{ℕ, _+_, _-_, _≤_, _<_}
 use native.Mathlib.Nat.{add-sub-cancel-left}
 use native.Mathlib.Omega.{arith}
 use borrow.Author.Tests.{eq-eqb, eqb-true, not-true, not-false}
-use Rattle.text.specs.Bytes.{every, valueFrom}
-use Rattle.text.specs.First.{firstFrom}
-use Rattle.text.specs.Texts.{allows}
 use Rattle.text.proofs.First.{Looked, nowhere, lowest, looked}
 use Rattle.text.proofs.Ways.{and-first, and-second}
 use Rattle.layout.specs.declared.Edition.{Edition}
-use Rattle.layout.specs.declared.Edition.the-variants.{One, Three, Four}
-use Rattle.layout.specs.Page.{element, page}
-use Rattle.ties.specs.Ties.{octantFits}
 use Rattle.signs.specs.Signed.{signed}
 use Rattle.reading.specs.Readings.{south, west, east}
 use Rattle.hemispheres.specs.Digits.{sameSigned, samePlace, keepsTie, mayStand, suits, lowestDigit}
@@ -81,21 +74,3 @@ module _ (from to : Edition) (d latitude longitude : ℕ) where
   digit-found =
       let g = gives longitude to (south from d) (west from d) in
       taken (g .digit) (g .small) (suited g) _ refl (looked (unsuited from to d latitude longitude) 48 10)
-
--- Worked cases. 90.0 E lies in octants 2 and 3; the date line is the same from the west and from the east, and so is Greenwich; the equator is the same from the south;
--- and the poles keep their hemisphere.
-pub cases :
-    (lowestDigit Three One 1 100 900 ∷
-    lowestDigit Three One 7 100 1800 ∷
-    lowestDigit Four One 1 100 1800 ∷
-    lowestDigit One Four 1 100 1800 ∷
-    lowestDigit One Three 2 100 1800 ∷
-    lowestDigit Three One 1 100 0 ∷
-    lowestDigit Three One 3 0 100 ∷
-    lowestDigit One Three 8 0 100 ∷
-    lowestDigit Three One 1 900 100 ∷
-    lowestDigit Four One 3 900 100 ∷
-    []) ≡
-    (50 ∷ 49 ∷ 49 ∷ 49 ∷ 49 ∷ 48 ∷ 51 ∷ 49 ∷ 51 ∷ 56 ∷ [])
-unfolding lowestDigit firstFrom suits allows element page every valueFrom south west octantFits
-cases = refl

@@ -120,5 +120,10 @@ module _ (from to : Edition) (d latitude longitude : ℕ) where
     pub passed : leaves b → b ≤ 57 → x ≡ false → leaves (b + 1)
     passed i l h = i ∙ on unsuited 57 b l (unsuited-at h)
 
-  pub ended : (b : ℕ) → leaves b → 57 < b → 0 ≡ lowestDigit from to d latitude longitude
-  ended b i l = sym (i ∙ end unsuited 57 b l)
+  -- where some digit suits and none before the last one, it is the last
+  pub ended : (b : ℕ) → leaves b → b ≤ 57 → 57 ≤ b → 1 ≤ lowestDigit from to d latitude longitude → b ≡ lowestDigit from to d latitude longitude
+  ended b i l h some = by (unsuited b) refl
+    where
+      by : (x : Bool) → unsuited b ≡ x → b ≡ lowestDigit from to d latitude longitude
+      by true e = let none : lowestDigit from to d latitude longitude ≡ 0 = i ∙ on unsuited 57 b l e ∙ end unsuited 57 (b + 1) (omega arith) in absurd (omega arith)
+      by false e = sym (i ∙ off unsuited 57 b l e)

@@ -34,7 +34,7 @@ mayStand ed digit = allows (textsOf ed 6) ((48 + digit) ∷ [])
 unfoldable pub suits : Edition → Edition → ℕ → ℕ → ℕ → ℕ → Bool
 suits from to d latitude longitude c = mayStand to c && (samePlace from d to c latitude longitude && keepsTie to c longitude)
 
--- the lowest such digit, as the character '0' to '9'; 0 where there is none
+-- the lowest such digit, as the character '0' to '9'; every place has one (`every-place`)
 unfoldable pub lowestDigit : Edition → Edition → ℕ → ℕ → ℕ → ℕ
 lowestDigit from to d latitude longitude = firstFrom (λ b. not (suits from to d latitude longitude (b - 48))) 48 10
 

@@ -76,18 +76,18 @@ fn is_suited(from: Edition, to: Edition, d: u32, latitude: u32, longitude: u32, 
 }
 
 // The lowest digit of the edition `to` that gives the place of digit d and keeps tie 2, found by trying
-// one after the other.
+// one after the other. There is one for every place, so where no other will do it is the last.
 fn first_digit(from: Edition, to: Edition, d: u32, latitude: u32, longitude: u32) -> u8
     ensures { λ r. ⌜ r ≡ lowestDigit from to d latitude longitude ⌝ }
 {
     let mut b = 48;
-    while b <= 57 {
+    while b < 57 {
         if is_suited(from, to, d, latitude, longitude, digit_of(b)) {
             return b;
         }
         b += 1;
     }
-    0
+    b
 }
 
 // The number that a character '0' to '9' says.
@@ -165,8 +165,8 @@ fn plain_digit(to: Edition, far: bool, south: bool, west: bool) -> u8
     }
 }
 
-// The lowest digit of the edition `to` that gives the place of digit d and keeps tie 2, as a character;
-// 0 where there is none. A plain place has one, which stands in a table.
+// The lowest digit of the edition `to` that gives the place of digit d and keeps tie 2, as a character.
+// A plain place has just one, which stands in a table.
 pub fn lowest_digit(from: Edition, to: Edition, d: u32, latitude: u32, longitude: u32) -> u8
     ensures { λ r. ⌜ r ≡ lowestDigit from to d latitude longitude ⌝ }
 {

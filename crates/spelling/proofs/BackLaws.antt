@@ -21,6 +21,7 @@ use Rattle.layout.specs.declared.Edition.{Edition}
 use Rattle.layout.specs.Page.{element, page, widthOf}
 use Rattle.ties.specs.Ties.{placeTie, signTie}
 use Rattle.ties.specs.Ties as Ties
+use Rattle.ties.proofs.Together.{latitude-alike, longitude-alike, value-alike}
 use Rattle.reading.specs.declared.Reading.the-variants.{Missing, Code, Text}
 use Rattle.signs.specs.Signed.{signed, negative}
 use Rattle.reading.specs.Readings.{alwaysText, plain, below, kindOf, temperature, departure, south, west, east, placeOf}
@@ -30,13 +31,6 @@ use Rattle.spelling.specs.Spelled.{signDigit, amountNumeral, placeNumera
 pub data Holds (p : ℕ → Bool) (t : List ℕ) : Type 0 where
   empty : blank t ≡ true → Holds p t
   holds : blank t ≡ false → digits t ≡ true → p (number t) ≡ true → Holds p t
-
--- texts of which both or neither are there
-there-alike : (x y : Bool) → Bool·beq (not x) (not y) ≡ true → y ≡ x
-there-alike true true e = refl
-there-alike true false e = absurd (true≢false (sym e))
-there-alike false true e = absurd (true≢false (sym e))
-there-alike false false e = refl
 
 -- the distance from zero of a number with its sign
 pub distance : (b : Bool) (n : ℕ) → natAbs (signed b n) ≡ n
@@ -83,8 +77,7 @@ digit-kept (suc (suc (suc (suc (suc (suc (suc (suc n)))))))) m p z =
 -- a sign and its temperature
 module _ (ed : Edition) (s v : List ℕ) (tied : signTie s v ≡ true) where
   alike : blank v ≡ blank s
-  unfolding signTie
-  alike = there-alike _ _ (and-first _ _ tied)
+  alike = value-alike s v tied
 
   no-minus-zero : not (Ties.negative (number s) && eqb (number v) 0) ≡ true
   unfolding signTie
@@ -134,12 +127,10 @@ turned-back true (suc l) h =
 -- column 12, latitude and longitude
 module _ (ed : Edition) (q la lo : List ℕ) (tied : placeTie q la lo ≡ true) where
   first-two : blank la ≡ blank q
-  unfolding placeTie
-  first-two = there-alike _ _ (and-first _ _ tied)
+  first-two = latitude-alike q la lo tied
 
   last-two : blank lo ≡ blank la
-  unfolding placeTie
-  last-two = there-alike _ _ (and-second (Bool·beq (not (blank q)) (not (blank la))) _ tied)
+  last-two = longitude-alike q la lo tied
 
   pub digit-back : (p : ℕ → Bool) → length q ≡ widthOf 6 → Holds p q → spell (widthOf 6) (numeralFor ed 6 (placeOf ed q la lo)) ≡ q
   unfolding placeOf numeralFor placeNumeral

@@ -3,8 +3,8 @@
  * around the lent buffer, and the worked cases of the rules.
  *
  * The answers are proved; what is tried here is what no proof has seen: the header, the way numbers and slices cross into C, and the
- * machine code. Prints a line for each test that fails and ends with 'tests N failed M'. Refusal 10 has no test, since no record gives it:
- * every place has a digit of column 12 in every edition. Nor has 11, which is about reading one element.
+ * machine code. Prints a line for each test that fails and ends with 'tests N failed M'. Refusal 11 has no test: it is about reading one
+ * element.
  */
 #include <inttypes.h>
 #include <stdio.h>

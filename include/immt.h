@@ -39,9 +39,8 @@ extern "C" {
 
 /*
  * What the calls return, and the place that goes with it. They ask in this order, and the first that fails is the answer, at its
- * lowest place. A check asks 1 to 7, a recast 1 to 9. The table that these numbers come from has 10 (no digit of column 12 in the edition
- * asked for gives the place) and 11 (no such element in the edition) too: every place has a digit in every edition, and neither call is
- * asked for an element, so neither is returned.
+ * lowest place. A check asks 1 to 7, a recast 1 to 9. The table that these numbers come from has 11 (no such element in the edition)
+ * too: neither call is asked for an element, so it is not returned.
  */
 enum immt_refusal {
     IMMT_OK = 0,                     /* accepted, or recast                               place 0 */

@@ -6,16 +6,18 @@ use crate::quick;
 use crate::reading::{hemispheres, position};
 use crate::Answer;
 
-/// The column 12 digit in the target for a place that is there: the lowest that gives the same place and keeps tie 2.
-fn digit_for(from: Edition, to: Edition, record: &[u8]) -> Option<u8> {
-    let latitude = number(text(record, 7))?;
-    let longitude = number(text(record, 8))?;
+/// The column 12 digit in the target for the place of an accepted record: the lowest that gives the same place and keeps
+/// tie 2. Every place has one in every edition.
+fn digit_for(from: Edition, to: Edition, record: &[u8]) -> u8 {
+    let tenths = |element| number(text(record, element)).expect("a place is there as a whole");
+    let (latitude, longitude) = (tenths(7), tenths(8));
     let place = |edition: Edition, digit: u8| {
         hemispheres(edition, u64::from(digit - b'0')).map(|sides| position(sides, latitude, longitude))
     };
-    let wanted = place(from, record[11])?;
+    let wanted = place(from, record[11]);
     (b'0'..=b'8')
-        .find(|&digit| place(to, digit) == Some(wanted) && (to != Edition::One || octant_holds(digit, longitude)))
+        .find(|&digit| place(to, digit) == wanted && (to != Edition::One || octant_holds(digit, longitude)))
+        .expect("every place has a digit in every edition")
 }
 
 /// The same digits in a table: by the digit in the record, whether the latitude is 000, and where the longitude stands
@@ -62,7 +64,7 @@ static QUADRANTS: Digits = digits(Edition::One, Edition::Three);
 static OCTANTS: Digits = digits(Edition::Three, Edition::One);
 
 #[inline(always)]
-fn digit_of_table(to: Edition, record: &[u8]) -> Option<u8> {
+fn digit_of_table(to: Edition, record: &[u8]) -> u8 {
     let table = if matches!(to, Edition::One) { &OCTANTS } else { &QUADRANTS };
     let longitude = &record[15..19];
     let longitude = u32::from_be_bytes([longitude[0], longitude[1], longitude[2], longitude[3]]);
@@ -71,9 +73,7 @@ fn digit_of_table(to: Edition, record: &[u8]) -> Option<u8> {
         + usize::from(longitude >= u32::from_be_bytes(*b"0900"))
         + usize::from(longitude > u32::from_be_bytes(*b"0900"))
         + usize::from(longitude >= u32::from_be_bytes(*b"1800"));
-    let digit = usize::from(record[11].wrapping_sub(b'0'));
-    let found = *table.get(digit)?[usize::from(record[12..15] != *b"000")].get(kind)?;
-    (found != 0).then_some(found)
+    table[usize::from(record[11] - b'0')][usize::from(record[12..15] != *b"000")][kind]
 }
 
 /// Whether the characters of an element that is filled say the same in the target.
@@ -106,10 +106,7 @@ pub fn plain_recast(record: &[u8], edition: u64, buffer: &mut [u8]) -> Answer {
     let mut result = [b' '; LONGEST];
     result[..record.len()].copy_from_slice(record);
     if (from == Edition::One) != (to == Edition::One) && record[11] != b' ' {
-        match digit_for(from, to, record) {
-            Some(digit) => result[11] = digit,
-            None => return Answer::refused(10, 6),
-        }
+        result[11] = digit_for(from, to, record);
     }
     if buffer.len() < to.length() {
         return Answer::refused(9, 0);
@@ -162,7 +159,7 @@ fn later_filled(record: &[u8]) -> u64 {
     filled
 }
 
-/// Recast: refusals 1 to 7, 8, 10, 9 in this order.
+/// Recast: refusals 1 to 9 in this order.
 #[inline]
 pub fn recast(record: &[u8], edition: u64, buffer: &mut [u8]) -> Answer {
     let Some(from) = quick::accepted(record) else {
@@ -176,10 +173,7 @@ pub fn recast(record: &[u8], edition: u64, buffer: &mut [u8]) -> Answer {
 
     let mut digit = record[11];
     if across_one && digit != b' ' {
-        match digit_of_table(to, record) {
-            Some(other) => digit = other,
-            None => return Answer::refused(10, 6),
-        }
+        digit = digit_of_table(to, record);
     }
     let length = to.length();
     if buffer.len() < length {

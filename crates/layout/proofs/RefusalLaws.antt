@@ -1,17 +1,16 @@
 -- A number and a place of the table name one refusal. Assumes nothing.
 use mathlib.Core.Path.{_≡_, refl, sym, ap, _∙_}
+use mathlib.Core.Bool.{cond}
 use mathlib.Core.List.{List, [], _∷_}
 use Prim.Native.Nat.{ℕ, _<_}
-use lib.Dec.{lit<}
-use lib.ListN.{getD}
+use lib.Dec.{eqb, lit<}
 use Rattle.layout.specs.declared.Refusal.{Refusal}
-use Rattle.layout.specs.declared.Refusal.the-variants.{Length, Unprintable, Format, Version, EditionLength, Illegal, Broken, Unheld, Room, NoDigit, NoElement}
+use Rattle.layout.specs.declared.Refusal.the-variants.{Length, Unprintable, Format, Version, EditionLength, Illegal, Broken, Unheld, Room, NoElement}
 use Rattle.layout.specs.Refusals.{numberOf, placeOf}
 
--- the refusals by number, each with the place that it is given
-abbrev table : List (ℕ → Refusal)
-table =
-    (λ p. Length) ∷
+-- every refusal, with the place that it is given
+abbrev refusals : List (ℕ → Refusal)
+refusals =
     (λ p. Length) ∷
     Unprintable ∷
     (λ p. Format) ∷
@@ -21,14 +20,19 @@ table =
     Broken ∷
     (λ p. Unheld) ∷
     (λ p. Room) ∷
-    (λ p. NoDigit) ∷
     (λ p. NoElement) ∷
     []
 
+-- the first of them that has the number
+with-number : List (ℕ → Refusal) → ℕ → ℕ → Refusal
+with-number [] n p = Length
+with-number (r ∷ rs) n p = cond (eqb (numberOf (r p)) n) (r p) (with-number rs n p)
+
 abbrev by-number : ℕ → ℕ → Refusal
-by-number n = getD table n (λ p. Length)
+by-number = with-number refusals
 
 back : (r : Refusal) → by-number (numberOf r) (placeOf r) ≡ r
+unfolding with-number
 back Length = refl
 back (Unprintable c) = refl
 back Format = refl
@@ -38,7 +42,6 @@ back (Illegal e) = refl
 back (Broken k) = refl
 back Unheld = refl
 back Room = refl
-back NoDigit = refl
 back NoElement = refl
 
 pub same-refusal : (r s : Refusal) → numberOf r ≡ numberOf s → placeOf r ≡ placeOf s → r ≡ s
@@ -55,5 +58,4 @@ numbered (Illegal e) = lit< tt
 numbered (Broken k) = lit< tt
 numbered Unheld = lit< tt
 numbered Room = lit< tt
-numbered NoDigit = lit< tt
 numbered NoElement = lit< tt

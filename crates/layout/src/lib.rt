@@ -113,8 +113,6 @@ pub enum Refusal {
     Unheld,
     // lent buffer shorter than that edition
     Room,
-    // no column 12 digit of the target gives the place
-    NoDigit,
     // element number not in the record's edition
     NoElement,
 }
@@ -134,7 +132,6 @@ impl Refusal {
             Refusal::Broken(_) => 7,
             Refusal::Unheld => 8,
             Refusal::Room => 9,
-            Refusal::NoDigit => 10,
             Refusal::NoElement => 11,
         }
     }
@@ -153,7 +150,6 @@ impl Refusal {
             Refusal::Broken(tie) => tie as u64,
             Refusal::Unheld => 0,
             Refusal::Room => 0,
-            Refusal::NoDigit => 6,
             Refusal::NoElement => 0,
         }
     }

@@ -3,11 +3,10 @@ use mathlib.Core.Path.{_≡_, refl, sym, ap, _∙_}
 use mathlib.Core.Logic.{_⊎_, inl, inr}
 use mathlib.Core.Bool.{Bool, true, false, true≢false}
 use mathlib.Core.List.{List, [], _∷_}
-use Prim.Native.Nat.{ℕ, _+_}
+use Prim.Native.Nat.{ℕ}
 use native.Mathlib.Omega.{arith}
-use borrow.Author.Tests.{le-leb, lt-leb}
 use lib.ListN.{getD}
-use Rattle.text.specs.Bytes.{every, printable, blank, number, valueFrom}
+use Rattle.text.specs.Bytes.{blank}
 use Rattle.text.proofs.Parts.{one-column}
 use Rattle.layout.specs.declared.Edition.{Edition}
 use Rattle.layout.specs.declared.Edition.the-variants.{One, Three, Four}
@@ -15,21 +14,11 @@ use Rattle.layout.specs.Page.{page, element, textOf, textsOf}
 use Rattle.layout.proofs.Beyond.{last-above}
 use Rattle.layout.proofs.RecordLaws.{shortest}
 use Rattle.checking.specs.Acceptable.{Acceptable}
-use Rattle.checking.proofs.PrintLaws.{legal-prints}
 use Rattle.hemispheres.specs.Digits.{crosses}
-use Rattle.hemispheres.proofs.Demand3Digits.{Found, digit-found}
+use Rattle.hemispheres.proofs.Request9Digits.{standing, digit-there, HasDigit, every-place}
 use Rattle.recasting.specs.Recast.{hemisphere, recastText}
 use Rattle.recasting.proofs.PlaceLaws.{six, chosen, by-tests}
 use Rattle.recasting.proofs.ResultLaws.{result, result-text}
-
--- a digit as a character is no blank, and says its number
-pub digit-there : (d : ℕ) → blank ((48 + d) ∷ []) ≡ false
-unfolding every
-digit-there d = rw (le-leb 32 (48 + d) (omega arith), lt-leb (48 + d) 32 (omega arith))
-
-pub digit-number : (d : ℕ) → number ((48 + d) ∷ []) ≡ d
-unfolding valueFrom
-digit-number d = omega arith
 
 -- editions between which column 12 stays have the same texts there
 pub same-digits : (from to : Edition) → crosses from to ≡ false → textsOf from 6 ≡ textsOf to 6
@@ -45,18 +34,10 @@ same-digits Four Three h = refl
 same-digits Four Four h = refl
 
 module _ (from to : Edition) (xs : List ℕ) (a : Acceptable from xs) where
-  abbrev pub place : Type 0
-  place = Found from to (number (textOf 6 xs)) (number (textOf 7 xs)) (number (textOf 8 xs))
-
-  -- what stands in column 12 is printable
-  printable-six : textOf 6 xs ≡ 0 ∷ [] → ⊥
-  unfolding every
-  printable-six z = true≢false (sym (legal-prints from xs 6 (a .lawful 6 (omega arith) (omega (arith, last-above from)))) ∙ ap (every printable) z)
-
   -- what has become of column 12
   pub data Column : Type 0 where
     stays : (crosses from to ≡ false) ⊎ (blank (textOf 6 xs) ≡ true) → textOf 6 (result from to xs a) ≡ textOf 6 xs → Column
-    moves : crosses from to ≡ true → blank (textOf 6 xs) ≡ false → (f : place) → textOf 6 (result from to xs a) ≡ (48 + f .digit) ∷ [] → Column
+    moves : crosses from to ≡ true → blank (textOf 6 xs) ≡ false → (f : HasDigit from to xs) → textOf 6 (result from to xs a) ≡ standing (f .digit) → Column
 
   six-text : textOf 6 (result from to xs a) ≡ hemisphere from to xs ∷ []
   unfolding recastText
@@ -76,13 +57,10 @@ module _ (from to : Edition) (xs : List ℕ) (a : Acceptable from xs) where
       written : (x b : Bool) → crosses from to ≡ x → blank (textOf 6 xs) ≡ b → textOf 6 (result from to xs a) ≡ chosen from to xs x b ∷ []
       written x b f g = six-text ∙ ap (λ (n : ℕ). n ∷ []) (sym (by-tests from to xs x b (sym f) (sym g)))
 
-      found : place
-      found = digit-found from to (number (textOf 6 xs)) (number (textOf 7 xs)) (number (textOf 8 xs))
-
       by : (x b : Bool) → crosses from to ≡ x → blank (textOf 6 xs) ≡ b → Column
       by false b f g = stays (inl f) (written false b f g ∙ own-six)
       by true true f g = stays (inr g) (written true true f g ∙ own-six)
-      by true false f g = moves f g found (written true false f g ∙ ap (λ (n : ℕ). n ∷ []) (found .is))
+      by true false f g = let d = every-place from to xs a g in moves f g d (written true false f g ∙ ap (λ (n : ℕ). n ∷ []) (d .taken))
 
   -- it is there exactly where it was
   pub same-there : blank (textOf 6 (result from to xs a)) ≡ blank (textOf 6 xs)
@@ -91,15 +69,3 @@ module _ (from to : Edition) (xs : List ℕ) (a : Acceptable from xs) where
       by : Column → blank (textOf 6 (result from to xs a)) ≡ blank (textOf 6 xs)
       by (stays w e) = ap blank e
       by (moves c b f e) = ap blank e ∙ digit-there (f .digit) ∙ sym b
-
-  -- there is always something to write there
-  pub never-none : hemisphere from to xs ≡ 0 → ⊥
-  unfolding every valueFrom
-  never-none z = by column
-    where
-      zero-there : textOf 6 (result from to xs a) ≡ 0 ∷ []
-      zero-there = six-text ∙ ap (λ (n : ℕ). n ∷ []) z
-
-      by : Column → ⊥
-      by (stays w e) = printable-six (sym e ∙ zero-there)
-      by (moves c b f e) = let n : 48 + f .digit ≡ 0 = ap (λ (t : List ℕ). getD t 0 32) (sym e ∙ zero-there) in omega arith

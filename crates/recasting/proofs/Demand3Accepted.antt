@@ -3,7 +3,7 @@ use mathlib.Core.Path.{_≡_, refl, sym, ap, _∙_}
 use mathlib.Core.Logic.{⊎-elim}
 use mathlib.Core.Bool.{Bool, true, false, not, _&&_, _||_, true≢false}
 use mathlib.Core.List.{List, [], _∷_}
-use Prim.Native.Nat.{ℕ, _+_, _≤_}
+use Prim.Native.Nat.{ℕ, _≤_}
 use native.Mathlib.Omega.{arith}
 use borrow.Author.Tests.{eqb-true, leb-true, leb-false}
 use lib.Dec.{eqb, leb, lit≤}
@@ -22,6 +22,7 @@ use Rattle.checking.specs.Check.{checked}
 use Rattle.checking.specs.Acceptable.{Acceptable}
 use Rattle.checking.proofs.Demand2Acceptance.{accepted-exactly}
 use Rattle.checking.proofs.LegalLaws.{legal-record}
+use Rattle.hemispheres.proofs.Request9Digits.{standing}
 use Rattle.meanings.specs.Meaning.{senseOf, sameSense}
 use Rattle.meanings.specs.Kept.{keeps, lostText, lostAt}
 use Rattle.recasting.specs.Recast.{digitOf, recastText, recastRecord}
@@ -56,7 +57,7 @@ module _ (from to : Edition) (xs : List ℕ) (a : Acceptable from xs) where
       by (stays w e) =
           ap (legalText to 6) e ∙
           ⊎-elim (λ c. ap (λ (s : Texts). (mayBeBlank 6 && blank (textOf 6 xs)) || allows s (textOf 6 xs)) (sym (same-digits from to c)) ∙ was) (λ b. blank-legal to 6 (textOf 6 xs) refl b) w
-      by (moves c b f e) = ap (legalText to 6) e ∙ allowed-legal to 6 ((48 + f .digit) ∷ []) (f .stands)
+      by (moves c b f e) = ap (legalText to 6) e ∙ allowed-legal to 6 (standing (f .digit)) (f .stands)
 
   -- column 111
   names-target : (ed : Edition) → allows (textsOf ed 65) (digitOf ed ∷ []) ≡ true

@@ -1,13 +1,12 @@
 -- Demand 3: each element but column 111 keeps its meaning or is blank, and is blank exactly when the target has no legal text with that meaning. Assumes nothing.
 use mathlib.Core.Path.{_≡_, refl, sym, ap, _∙_}
 use mathlib.Core.Logic.{_⊎_, inl, inr, _↔_, ⊎-elim}
-use mathlib.Core.Bool.{Bool, true, false, cond, not, _&&_, _||_, true≢false}
-use mathlib.Core.List.{List, [], _∷_}
-use Prim.Native.Nat.{ℕ, _+_, _≤_}
+use mathlib.Core.Bool.{Bool, true, false, not, _&&_, _||_, true≢false}
+use mathlib.Core.List.{List, []}
+use Prim.Native.Nat.{ℕ, _≤_}
 use borrow.Author.Tests.{eqb-true, eq-eqb, leb-true, leb-false}
 use lib.Dec.{eqb, leb}
-use lib.IntN.{ℤ}
-use Rattle.text.specs.Bytes.{every, blank, number}
+use Rattle.text.specs.Bytes.{every, blank}
 use Rattle.text.specs.Texts.{among, allows}
 use Rattle.text.proofs.Ways.{and-first}
 use Rattle.text.proofs.Among.{either-half, among-cases, at-number}
@@ -18,11 +17,10 @@ use Rattle.layout.specs.Page.{textOf, textsOf, mayBeBlank, legal}
 use Rattle.layout.proofs.Beyond.{text-none, legal-none}
 use Rattle.ties.specs.Ties.{there}
 use Rattle.checking.specs.Acceptable.{Acceptable}
-use Rattle.reading.specs.declared.Place.{Place}
-use Rattle.reading.specs.declared.Reading.the-variants.{Missing, At}
+use Rattle.reading.specs.declared.Reading.the-variants.{Missing}
 use Rattle.reading.specs.Readings.{south, west, placeOf, temperature, lead, itemOf}
 use Rattle.hemispheres.specs.Digits.{crosses}
-use Rattle.hemispheres.proofs.Demand3Digits.{Found, same-numbers}
+use Rattle.hemispheres.proofs.Request9Digits.{standing, HasDigit}
 use Rattle.meanings.specs.declared.Sense.{Sense}
 use Rattle.meanings.specs.declared.Sense.the-variants.{Alike}
 use Rattle.meanings.specs.Meaning.{senseOf, senseNumber, sameSense, withoutDigit, shares, Meaning, reads, says, meaningOf}
@@ -32,14 +30,8 @@ use Rattle.meanings.proofs.SenseLaws.{same-sense}
 use Rattle.recasting.proofs.ResultLaws.{Plain, result, result-long, result-beyond, as-it-was, lost-blank, new-blank}
 use Rattle.layout.proofs.Lacking.{nothing-there}
 use Rattle.recasting.proofs.NeverLaws.{shared, column-12, same}
-use Rattle.recasting.proofs.ColumnLaws.{digit-there, digit-number, Column, stays, moves, column, same-there}
+use Rattle.recasting.proofs.ColumnLaws.{Column, stays, moves, column, same-there}
 use Rattle.recasting.proofs.Demand3Accepted.{every-legal}
-
--- two places with the same numbers mean the same
-alike-places : (b : Bool) (p q : Place) → p .latitude ≡ q .latitude → p .longitude ≡ q .longitude → withoutDigit (cond b Missing (At p)) ≡ withoutDigit (cond b Missing (At q))
-alike-places true p q f g = refl
-alike-places false p q f g =
-    ap (λ (n : ℤ). At (record { latitude = n; longitude = p .longitude; digit = 0 })) f ∙ ap (λ (n : ℕ). At (record { latitude = q .latitude; longitude = n; digit = 0 })) g
 
 -- a blank digit gives no place
 no-place : (ed : Edition) (q la lo : List ℕ) → blank q ≡ true → placeOf ed q la lo ≡ Missing
@@ -60,12 +52,10 @@ alike-digits Four Three q la lo h = refl
 alike-digits Four Four q la lo h = refl
 
 -- the digit that is taken gives the place that the other gave
-moved : (from to : Edition) (q la lo : List ℕ) → blank q ≡ false → (f : Found from to (number q) (number la) (number lo)) →
-    withoutDigit (placeOf to ((48 + f .digit) ∷ []) la lo) ≡ withoutDigit (placeOf from q la lo)
-unfolding placeOf
-moved from to q la lo b f =
-    let n = same-numbers from to (number q) (f .digit) (number la) (number lo) (f .same) in
-    rw (digit-there (f .digit), digit-number (f .digit), b) (alike-places (blank la || blank lo) _ _ (sym (n .0)) (sym (n .1)))
+moved : (from to : Edition) (xs : List ℕ) (f : HasDigit from to xs) →
+    withoutDigit (placeOf to (standing (f .digit)) (textOf 7 xs) (textOf 8 xs)) ≡ withoutDigit (placeOf from (textOf 6 xs) (textOf 7 xs) (textOf 8 xs))
+unfolding itemOf
+moved from to xs f = ap withoutDigit (f .gives) ∙ sym (ap withoutDigit (f .held))
 
 -- the characters and the sense of what is said
 abbrev words : Meaning → List ℕ
@@ -116,7 +106,7 @@ module _ (from to : Edition) (xs : List ℕ) (a : Acceptable from xs) where
           ap (λ (t : List ℕ). withoutDigit (placeOf to t (textOf 7 xs) (textOf 8 xs))) e ∙
           ap withoutDigit
           (⊎-elim (alike-digits from to (textOf 6 xs) (textOf 7 xs) (textOf 8 xs)) (λ b. no-place to (textOf 6 xs) (textOf 7 xs) (textOf 8 xs) b ∙ sym (no-place from (textOf 6 xs) (textOf 7 xs) (textOf 8 xs) b)) w)
-      by (moves c b f e) = ap (λ (t : List ℕ). withoutDigit (placeOf to t (textOf 7 xs) (textOf 8 xs))) e ∙ moved from to (textOf 6 xs) (textOf 7 xs) (textOf 8 xs) b f
+      by (moves c b f e) = ap (λ (t : List ℕ). withoutDigit (placeOf to t (textOf 7 xs) (textOf 8 xs))) e ∙ moved from to xs f
 
   -- what shares a reading
   abbrev Kept : ℕ → Type 0

@@ -4,12 +4,12 @@ use mathlib.Core.Path.{_≡_, refl, sym, ap, _∙_}
 use mathlib.Core.Logic.{_⊎_, _↔_}
 use mathlib.Core.Bool.{Bool, true, false, true≢false}
 use mathlib.Core.List.{List, [], _∷_, _++_}
-use Prim.Native.Nat.{ℕ, _+_, _<_, _≤_}
-use borrow.Author.Tests.{ne-eqb, eqb-true, le-leb, lt-leb, leb-true, leb-false}
+use Prim.Native.Nat.{ℕ, _<_, _≤_}
+use borrow.Author.Tests.{eqb-true, le-leb, lt-leb, leb-true, leb-false}
 use lib.Dec.{eqb, leb}
 use lib.ListN.{length, take, drop}
 use lib.Seq.{take-at, drop-at}
-use Rattle.text.specs.Bytes.{blank, number}
+use Rattle.text.specs.Bytes.{blank}
 use Rattle.losses.specs.Losses.{noLosses, lossesOf, lostList}
 use Rattle.losses.specs.declared.Losses.{Losses}
 use Rattle.losses.proofs.Demand3Losses.{same-losses}
@@ -29,34 +29,29 @@ use Rattle.checking.specs.Acceptable as Checking
 use Rattle.checking.proofs.Demand1Refusals.{only-one}
 use Rattle.checking.proofs.Demand2Acceptance.{accepted-exactly}
 use Rattle.checking.proofs.Told.{Told, told}
-use Rattle.hemispheres.proofs.Demand3Digits.{digit-found}
 use Rattle.recasting.specs.declared.Outcome.{Outcome}
 use Rattle.recasting.specs.declared.Outcome.the-variants.{Done, Unrecast}
 use Rattle.meanings.specs.Meaning.{meaningOf}
 use Rattle.meanings.specs.Kept.{lostAt}
-use Rattle.recasting.specs.Recast.{hemisphere, digitOf, recastRecord, recastIn, recastTo, recastAfter, recastOf, filledBy, leftTo, leftAfter, leftOf, outcomeLosses}
+use Rattle.recasting.specs.Recast.{digitOf, recastRecord, recastIn, recastTo, recastAfter, recastOf, filledBy, leftTo, leftAfter, leftOf, outcomeLosses}
 use Rattle.meanings.specs.Lost.{Expressible}
-use Rattle.recasting.specs.Fits.{suitsPlace, Names, Fits, refused, unheld, digitless, cramped, recast}
+use Rattle.recasting.specs.Fits.{Names, Fits, refused, unheld, cramped, recast}
 use Rattle.recasting.proofs.ResultLaws.{result-long}
-use Rattle.recasting.proofs.ColumnLaws as Columns
 use Rattle.recasting.proofs.NeverLaws as Never
-use Rattle.recasting.proofs.FitLaws.{found-lowest, has-digit, result-fits, only-record}
+use Rattle.recasting.proofs.FitLaws.{result-fits, only-record}
 use Rattle.recasting.proofs.Demand3Accepted.{version-text, recast-is-accepted}
 use Rattle.recasting.proofs.Demand3Meaning.{kept-or-blank, blank-exactly, lost-exactly}
 use Rattle.recasting.proofs.Demand3Losses.{Listed, losses-listed}
 
--- column 12 is found for every accepted record, so refusal 10 is never given
-module _ (from to : Edition) (xs : List ℕ) (a : Acceptable from xs) where
-  pub some-digit : hemisphere from to xs ≡ 0 → ⊥
-  some-digit z = Columns.never-none from to xs a z
-
-  pub is-done : (room : ℕ) → lengthOf to ≤ room → recastIn from to xs room ≡ Done (lossesOf (lostAt from to xs))
+-- the room decides
+module _ (from to : Edition) (xs : List ℕ) (room : ℕ) where
+  pub is-done : lengthOf to ≤ room → recastIn from to xs room ≡ Done (lossesOf (lostAt from to xs))
   unfolding recastIn
-  is-done room h = rw (ne-eqb (hemisphere from to xs) 0 some-digit, le-leb (lengthOf to) room h)
+  is-done h = rw (le-leb (lengthOf to) room h)
 
-  pub no-room : (room : ℕ) → room < lengthOf to → recastIn from to xs room ≡ Unrecast Room
+  pub no-room : room < lengthOf to → recastIn from to xs room ≡ Unrecast Room
   unfolding recastIn
-  no-room room h = rw (ne-eqb (hemisphere from to xs) 0 some-digit, lt-leb (lengthOf to) room h)
+  no-room h = rw (lt-leb (lengthOf to) room h)
 
 -- What a call that succeeds leaves in the lent buffer: a record in front, and behind it what stood there.
 abbrev pub front : Edition → List ℕ → ℕ → List ℕ → List ℕ
@@ -88,11 +83,11 @@ module _ (from to : Edition) (xs : List ℕ) (edition : ℕ) (before : List ℕ)
   -- an accepted record, an edition that is held and room for it: the call succeeds
   pub succeeds : recastOf xs edition (length before) ≡ Done (lossesOf (lostAt from to xs))
   unfolding recastAfter recastTo
-  succeeds = rw (ok, names) (is-done from to xs fine (length before) room)
+  succeeds = rw (ok, names) (is-done from to xs (length before) room)
 
   filled : leftOf xs edition before ≡ recastRecord from to xs ++ drop (lengthOf to) before
   unfolding leftAfter leftTo filledBy
-  filled = rw (ok, names, is-done from to xs fine (length before) room)
+  filled = rw (ok, names, is-done from to xs (length before) room)
 
   is-front : front to xs edition before ≡ recastRecord from to xs
   is-front = ap (take (lengthOf to)) filled ∙ take-at (recastRecord from to xs) (drop (lengthOf to) before) (lengthOf to) (result-long from to xs fine)
@@ -140,9 +135,9 @@ success xs edition before losses d = by (checked xs) refl (asked edition) refl d
         with-room : (x : Bool) → leb (lengthOf to) (length before) ≡ x → Success xs edition before losses
         with-room true h =
             let room = leb-true (lengthOf to) (length before) h in
-            let same : lossesOf (lostAt from to xs) ≡ losses = ap lossesIn (sym (is-done from to xs fine (length before) room) ∙ in-target) in
+            let same : lossesOf (lostAt from to xs) ≡ losses = ap lossesIn (sym (is-done from to xs (length before) room) ∙ in-target) in
             rw (← same) (as-demanded from to xs edition before e f room)
-        with-room false h = absurd (true≢false (sym (ap isDone (sym (no-room from to xs fine (length before) (leb-false (lengthOf to) (length before) h)) ∙ in-target))))
+        with-room false h = absurd (true≢false (sym (ap isDone (sym (no-room from to xs (length before) (leb-false (lengthOf to) (length before) h)) ∙ in-target))))
 
 -- a refused call leaves the lent buffer as it was, and its loss set is empty
 pub refused-untouched : (xs : List ℕ) (edition : ℕ) (before : List ℕ) (r : Refusal) → recastOf xs edition (length before) ≡ Unrecast r →
@@ -165,13 +160,6 @@ fits xs = by (checked xs) (told xs)
     by : (c : Answer) → Told xs c → Checking.Fits xs c
     by (Accepted ed) t = t .0
     by (Refused r) t = t
-
--- some digit gives the place
-no-such : (from to : Edition) (xs : List ℕ) → Acceptable from xs → ((d : ℕ) → d ≤ 9 → suitsPlace from to xs d ≡ false) → ⊥
-no-such from to xs a none =
-    let f = digit-found from to (number (textOf 6 xs)) (number (textOf 7 xs)) (number (textOf 8 xs)) in
-    let l = found-lowest from to xs a f in
-    true≢false (sym (l .suited) ∙ none (f .digit) (l .small))
 
 -- what is answered fits, and nothing else does
 module _ (xs : List ℕ) (edition : ℕ) (before : List ℕ) where
@@ -198,11 +186,10 @@ module _ (xs : List ℕ) (edition : ℕ) (before : List ℕ) where
   unfolding recastAfter recastTo leftAfter leftTo filledBy
   one o after (refused r f) = let c : checked xs ≡ Refused r = only-one xs (checked xs) (Refused r) (fits xs) f in rw c (refl, refl)
   one o after (unheld from a n) = let c = accepted-exactly xs from .1 a in rw (c, n) (refl, refl)
-  one o after (digitless from to a n x b d) = absurd (no-such from to xs a d)
-  one o after (cramped from to a n d h) = let c = accepted-exactly xs from .1 a in rw (c, n, no-room from to xs a (length before) h) (refl, refl)
+  one o after (cramped from to a n h) = let c = accepted-exactly xs from .1 a in rw (c, n, no-room from to xs (length before) h) (refl, refl)
   one o after (recast from to a n h ys r losses l) =
       let c = accepted-exactly xs from .1 a in
-      rw (c, n, is-done from to xs a (length before) h) (ap Done (names-lost from to a losses l), ap (λ (t : List ℕ). t ++ drop (lengthOf to) before) (only-record from to xs a ys r))
+      rw (c, n, is-done from to xs (length before) h) (ap Done (names-lost from to a losses l), ap (λ (t : List ℕ). t ++ drop (lengthOf to) before) (only-record from to xs a ys r))
 
   those : (from to : Edition) (a : Acceptable from xs) → Names from to xs (lossesOf (lostAt from to xs))
   those from to a = record { test = lostAt from to xs; words = refl; version = Never.version from to xs a; exactly = lost-exactly from to xs a }
@@ -211,9 +198,9 @@ module _ (xs : List ℕ) (edition : ℕ) (before : List ℕ) where
       Fits xs edition before (recastIn from to xs (length before)) (filledBy from to xs (recastIn from to xs (length before)) before)
   unfolding filledBy
   in-target from to a f true h =
-      rw (is-done from to xs a (length before) (leb-true _ _ h))
+      rw (is-done from to xs (length before) (leb-true _ _ h))
       (recast from to a f (leb-true _ _ h) (recastRecord from to xs) (result-fits from to xs a) (lossesOf (lostAt from to xs)) (those from to a))
-  in-target from to a f false h = rw (no-room from to xs a (length before) (leb-false _ _ h)) (cramped from to a f (has-digit from to xs a) (leb-false _ _ h))
+  in-target from to a f false h = rw (no-room from to xs (length before) (leb-false _ _ h)) (cramped from to a f (leb-false _ _ h))
 
   answered : (c : Answer) → checked xs ≡ c → (n : Named) → asked edition ≡ n → Fits xs edition before (recastAfter c xs edition (length before)) (leftAfter c xs edition before)
   unfolding recastAfter recastTo leftAfter leftTo

@@ -8,7 +8,7 @@ use native.Mathlib.Omega.{arith}
 use borrow.Author.Tests.{eqb-true, leb-true, leb-false}
 use lib.Dec.{eqb, leb}
 use lib.ListN.{length}
-use Rattle.text.specs.Bytes.{blank}
+use Rattle.text.specs.Bytes.{blank, number}
 use Rattle.numerals.proofs.Backs.{blanks-back}
 use Rattle.layout.specs.declared.Edition.{Edition}
 use Rattle.layout.specs.Editions.{lastOf}
@@ -17,10 +17,12 @@ use Rattle.layout.proofs.Elements.{last-below}
 use Rattle.layout.proofs.RecordLaws.{text-long, same-record}
 use Rattle.checking.specs.Acceptable.{Acceptable}
 use Rattle.hemispheres.specs.Digits.{suits, crosses}
+use Rattle.hemispheres.proofs.Demand3Digits.{digit-found}
+use Rattle.hemispheres.proofs.Request9Digits.{HasDigit}
 use Rattle.meanings.specs.Kept.{lostText, lostAt}
 use Rattle.recasting.specs.Recast.{recastRecord}
 use Rattle.meanings.specs.Lost.{Expressible}
-use Rattle.recasting.specs.Fits.{Lowest, Column12, stays, moves, HasDigit, unmoved, some, Recasts}
+use Rattle.recasting.specs.Fits.{Lowest, Column12, stays, moves, Recasts}
 use Rattle.recasting.proofs.ResultLaws.{result, result-long, as-it-was, lost-blank}
 use Rattle.recasting.proofs.ColumnLaws as Columns
 use Rattle.recasting.proofs.Demand3Accepted.{version-text}
@@ -35,10 +37,13 @@ unfolding lostText
 blank-is-kept from to e t b = rw b
 
 module _ (from to : Edition) (xs : List ℕ) (a : Acceptable from xs) where
-  -- what was found is the lowest
-  pub found-lowest : (f : Columns.place from to xs a) → Lowest from to xs (f .digit)
+  -- the digit that is taken is the lowest
+  taken-lowest : (f : HasDigit from to xs) → Lowest from to xs (f .digit)
   unfolding suits
-  found-lowest f = record { small = f .small; suited = rw (f .stands, f .same, f .ties); lower = f .lowest }
+  taken-lowest f =
+      let g = digit-found from to (number (textOf 6 xs)) (number (textOf 7 xs)) (number (textOf 8 xs)) in
+      let same : g .digit ≡ f .digit = omega (arith, g .is, f .taken) in
+      rw (← same) (record { small = g .small; suited = rw (g .stands, g .same, g .ties); lower = g .lowest })
 
   pub one-lowest : (c d : ℕ) → Lowest from to xs c → Lowest from to xs d → c ≡ d
   one-lowest c d l m = by (leb c d) (leb d c) refl refl
@@ -56,14 +61,7 @@ module _ (from to : Edition) (xs : List ℕ) (a : Acceptable from xs) where
     where
       by : Columns.Column from to xs a → Column12 from to xs (result from to xs a)
       by (Columns.stays w e) = stays w e
-      by (Columns.moves c b f e) = moves c b (f .digit) (found-lowest f) e
-
-  pub has-digit : HasDigit from to xs
-  has-digit = by (Columns.column from to xs a)
-    where
-      by : Columns.Column from to xs a → HasDigit from to xs
-      by (Columns.stays w e) = unmoved w
-      by (Columns.moves c b f e) = some (f .digit) (found-lowest f)
+      by (Columns.moves c b f e) = moves c b (f .digit) (taken-lowest f) e
 
   pub result-fits : Recasts from to xs (result from to xs a)
   result-fits = record {

@@ -4,13 +4,13 @@ use mathlib.Core.Bool.{true}
 use mathlib.Core.List.{List, _++_}
 use Prim.Native.Nat.{ℕ, _<_, _≤_}
 use native.Mathlib.Omega.{arith}
-use borrow.Author.Tests.{eq-eqb, ne-eqb, le-leb, lt-leb}
+use borrow.Author.Tests.{le-leb, lt-leb}
 use lib.ListN.{length, drop}
 use Rattle.losses.specs.Losses.{lossesOf}
 use Rattle.losses.specs.declared.Losses.{Losses}
 use Rattle.layout.specs.declared.Edition.{Edition}
 use Rattle.layout.specs.declared.Named.{Named}
-use Rattle.layout.specs.declared.Refusal.the-variants.{Room, NoDigit}
+use Rattle.layout.specs.declared.Refusal.the-variants.{Room}
 use Rattle.layout.specs.Editions.{lengthOf, lastOf}
 use Rattle.layout.specs.Page.{textOf, legalText, legal}
 use Rattle.layout.proofs.RecordLaws.{shortest}
@@ -20,7 +20,7 @@ use Rattle.checking.specs.Check.{checked}
 use Rattle.checking.proofs.Demand2Acceptance.{accepted-exactly}
 use Rattle.recasting.specs.declared.Outcome.the-variants.{Done, Unrecast}
 use Rattle.meanings.specs.Kept.{lostAt}
-use Rattle.recasting.specs.Recast.{hemisphere, recastRecord, recastIn, recastTo, recastAfter, filledBy, leftTo, leftAfter}
+use Rattle.recasting.specs.Recast.{recastRecord, recastIn, recastTo, recastAfter, filledBy, leftTo, leftAfter}
 
 pub accepted-long : (from : Edition) (xs : List ℕ) → checked xs ≡ Accepted from → 131 ≤ length xs
 accepted-long from xs ok = omega (arith, accepted-exactly xs from .0 ok .full, shortest from)
@@ -29,25 +29,20 @@ pub own-texts : (from : Edition) (xs : List ℕ) → checked xs ≡ Accepted fro
 unfolding legal
 own-texts from xs ok = let a = accepted-exactly xs from .0 ok in (a .full, a .lawful)
 
--- the outcome, by the first test that fails, and what it leaves
-module _ (from to : Edition) (xs : List ℕ) (b : ℕ) (f : b ≡ hemisphere from to xs) (before : List ℕ) where
-  pub no-digit : b ≡ 0 → (Unrecast NoDigit ≡ recastIn from to xs (length before)) × (before ≡ filledBy from to xs (Unrecast NoDigit) before)
+-- the outcome by the room, and what it leaves
+module _ (from to : Edition) (xs before : List ℕ) (n : ℕ) (g : n ≡ lengthOf to) where
+  pub no-room : length before < n → (Unrecast Room ≡ recastIn from to xs (length before)) × (before ≡ filledBy from to xs (Unrecast Room) before)
   unfolding recastIn filledBy
-  no-digit h = (rw (← f, eq-eqb b 0 h), refl)
+  no-room h = (rw (lt-leb (lengthOf to) (length before) (omega arith)), refl)
 
-  module _ (some : b ≡ 0 → ⊥) (n : ℕ) (g : n ≡ lengthOf to) where
-    pub no-room : length before < n → (Unrecast Room ≡ recastIn from to xs (length before)) × (before ≡ filledBy from to xs (Unrecast Room) before)
-    unfolding recastIn filledBy
-    no-room h = (rw (← f, ne-eqb b 0 some, lt-leb (lengthOf to) (length before) (omega arith)), refl)
-
-    -- the record in front of what stood behind it
-    pub done : n ≤ length before → (losses : Losses) → losses ≡ lossesOf (lostAt from to xs) → (row : List ℕ) → row ≡ recastRecord from to xs →
-        (Done losses ≡ recastIn from to xs (length before)) × (row ++ drop n before ≡ filledBy from to xs (Done losses) before)
-    unfolding recastIn filledBy
-    done h losses k row l = (
-      ap Done k ∙ rw (← f, ne-eqb b 0 some, le-leb (lengthOf to) (length before) (omega arith)),
-      ap (λ (t : List ℕ). t ++ drop n before) l ∙ ap (λ (k : ℕ). recastRecord from to xs ++ drop k before) g,
-    )
+  -- the record in front of what stood behind it
+  pub done : n ≤ length before → (losses : Losses) → losses ≡ lossesOf (lostAt from to xs) → (row : List ℕ) → row ≡ recastRecord from to xs →
+      (Done losses ≡ recastIn from to xs (length before)) × (row ++ drop n before ≡ filledBy from to xs (Done losses) before)
+  unfolding recastIn filledBy
+  done h losses k row l = (
+    ap Done k ∙ rw (le-leb (lengthOf to) (length before) (omega arith)),
+    ap (λ (t : List ℕ). t ++ drop n before) l ∙ ap (λ (k : ℕ). recastRecord from to xs ++ drop k before) g,
+  )
 
 -- the edition, or the answer, that an arm was taken at
 pub at-name : {m n : Named} (from : Edition) (xs : List ℕ) (room : ℕ) → m ≡ n → recastTo from n xs room ≡ recastTo from m xs room

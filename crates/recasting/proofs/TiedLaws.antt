@@ -2,23 +2,23 @@
 use mathlib.Core.Path.{_≡_, refl, ap, _∙_}
 use mathlib.Core.Logic.{_⊎_, inl, inr, ⊎-elim}
 use mathlib.Core.Bool.{Bool, true, false, true≢false}
-use mathlib.Core.List.{List, [], _∷_}
-use Prim.Native.Nat.{ℕ, zero, suc, _+_, _≤_}
+use mathlib.Core.List.{List}
+use Prim.Native.Nat.{ℕ, zero, suc, _≤_}
 use native.Mathlib.Omega.{arith}
 use borrow.Author.Tests.{leb-true, leb-false}
 use lib.Dec.{leb, lit≤}
-use Rattle.text.specs.Bytes.{every, blank, number}
+use Rattle.text.specs.Bytes.{every, blank}
 use Rattle.layout.specs.declared.Edition.{Edition}
 use Rattle.layout.specs.declared.Edition.the-variants.{One, Three, Four}
 use Rattle.layout.specs.Editions.{lastOf}
 use Rattle.layout.specs.Page.{textOf}
 use Rattle.ties.specs.Ties.{placeTie, octantTie, signTie, digitTie, windTie, tie}
 use Rattle.checking.specs.Acceptable.{Acceptable}
-use Rattle.hemispheres.specs.Digits.{keepsTie, crosses}
+use Rattle.hemispheres.specs.Digits.{crosses}
 use Rattle.meanings.specs.Kept.{lostAt}
 use Rattle.recasting.proofs.ResultLaws.{result, result-beyond, as-it-was, lost-blank, new-blank}
 use Rattle.recasting.proofs.NeverLaws.{steady, same}
-use Rattle.recasting.proofs.ColumnLaws.{digit-there, digit-number, Column, stays, moves, column, same-there}
+use Rattle.recasting.proofs.ColumnLaws.{Column, stays, moves, column, same-there}
 
 -- tie 2: where the place is blank, between editions that do not cross, and with a digit that keeps it
 tied-blank : (ed : Edition) (t u : List ℕ) → blank t ≡ true → octantTie ed t u ≡ true
@@ -34,12 +34,6 @@ within-tied Three One t u c h = absurd (true≢false c)
 within-tied Four One t u c h = absurd (true≢false c)
 within-tied from Three t u c h = refl
 within-tied from Four t u c h = refl
-
-digit-tied : (ed : Edition) (d : ℕ) (u : List ℕ) → keepsTie ed d (number u) ≡ true → octantTie ed ((48 + d) ∷ []) u ≡ true
-unfolding octantTie
-digit-tied One d u h = rw (digit-there d, digit-number d) h
-digit-tied Three d u h = refl
-digit-tied Four d u h = refl
 
 -- ties 8 and 9 ask nothing where there is no speed
 no-speed : (t u : List ℕ) → blank t ≡ true → windTie t u ≡ true
@@ -77,7 +71,7 @@ module _ (from to : Edition) (xs : List ℕ) (a : Acceptable from xs) where
     where
       by : Column from to xs a → octantTie to (textOf 6 (result from to xs a)) (textOf 8 xs) ≡ true
       by (stays w e) = ap (λ (t : List ℕ). octantTie to t (textOf 8 xs)) e ∙ ⊎-elim (λ c. within-tied from to (textOf 6 xs) (textOf 8 xs) c was) (λ b. tied-blank to (textOf 6 xs) (textOf 8 xs) b) w
-      by (moves c b f e) = ap (λ (t : List ℕ). octantTie to t (textOf 8 xs)) e ∙ digit-tied to (f .digit) (textOf 8 xs) (f .ties)
+      by (moves c b f e) = ap (λ (t : List ℕ). octantTie to t (textOf 8 xs)) e ∙ f .ties
 
   -- a sign and its temperature, a wind and its indicator
   sign-tied : (e f : ℕ) → Same e → Same f → signTie (textOf e xs) (textOf f xs) ≡ true → signTie (textOf e (result from to xs a)) (textOf f (result from to xs a)) ≡ true

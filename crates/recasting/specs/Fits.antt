@@ -1,5 +1,5 @@
--- What an outcome and the lent buffer afterwards must be to fit a record, an edition number and the buffer before: document 01's 1 to 8, 10, 9 in this order, and
--- the recast record said element by element, with no word of how it is made. Assumes nothing.
+-- What an outcome and the lent buffer afterwards must be to fit a record, an edition number and the buffer before: refusals 1 to 9 in this order, and the
+-- recast record said element by element, with no word of how it is made. Assumes nothing.
 use Prim.Native.Nat.{ℕ, _+_, _<_, _≤_}
 use mathlib.Core.Path.{_≡_}
 use mathlib.Core.Logic.{_⊎_, _↔_}
@@ -13,7 +13,7 @@ use Rattle.losses.specs.declared.Losses.{Losses}
 use Rattle.layout.specs.declared.Edition.{Edition}
 use Rattle.layout.specs.declared.Named.the-variants.{Known, Unknown}
 use Rattle.layout.specs.declared.Refusal.{Refusal}
-use Rattle.layout.specs.declared.Refusal.the-variants.{Unheld, Room, NoDigit}
+use Rattle.layout.specs.declared.Refusal.the-variants.{Unheld, Room}
 use Rattle.layout.specs.Editions.{asked, lengthOf, lastOf}
 use Rattle.layout.specs.Page.{textOf}
 use Rattle.checking.specs.declared.Answer.the-variants.{Refused}
@@ -39,10 +39,6 @@ pub data Column12 (from to : Edition) (xs ys : List ℕ) : Type 0 where
   stays : (crosses from to ≡ false) ⊎ (blank (textOf 6 xs) ≡ true) → textOf 6 ys ≡ textOf 6 xs → Column12 from to xs ys
   moves : crosses from to ≡ true → blank (textOf 6 xs) ≡ false → (d : ℕ) → Lowest from to xs d → textOf 6 ys ≡ (48 + d) ∷ [] → Column12 from to xs ys
 
-pub data HasDigit (from to : Edition) (xs : List ℕ) : Type 0 where
-  unmoved : (crosses from to ≡ false) ⊎ (blank (textOf 6 xs) ≡ true) → HasDigit from to xs
-  some : (d : ℕ) → Lowest from to xs d → HasDigit from to xs
-
 -- ys is the recast of xs: column 12, column 111, and of every other element the characters, where a legal text of the target has its meaning, or blanks
 pub record Recasts (from to : Edition) (xs ys : List ℕ) : Type 0 where
   pub full : length ys ≡ lengthOf to
@@ -62,8 +58,6 @@ pub record Names (from to : Edition) (xs : List ℕ) (losses : Losses) : Type 0 
 pub data Fits (xs : List ℕ) (edition : ℕ) (before : List ℕ) : Outcome → List ℕ → Type 0 where
   refused : (r : Refusal) → Checking.Fits xs (Refused r) → Fits xs edition before (Unrecast r) before
   unheld : (from : Edition) → Acceptable from xs → asked edition ≡ Unknown → Fits xs edition before (Unrecast Unheld) before
-  digitless : (from to : Edition) → Acceptable from xs → asked edition ≡ Known to → crosses from to ≡ true → blank (textOf 6 xs) ≡ false → ((d : ℕ) → d ≤ 9 → suitsPlace from to xs d ≡ false) →
-      Fits xs edition before (Unrecast NoDigit) before
-  cramped : (from to : Edition) → Acceptable from xs → asked edition ≡ Known to → HasDigit from to xs → length before < lengthOf to → Fits xs edition before (Unrecast Room) before
+  cramped : (from to : Edition) → Acceptable from xs → asked edition ≡ Known to → length before < lengthOf to → Fits xs edition before (Unrecast Room) before
   recast : (from to : Edition) → Acceptable from xs → asked edition ≡ Known to → lengthOf to ≤ length before → (ys : List ℕ) → Recasts from to xs ys → (losses : Losses) → Names from to xs losses →
       Fits xs edition before (Done losses) (ys ++ drop (lengthOf to) before)

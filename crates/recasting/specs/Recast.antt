@@ -1,4 +1,4 @@
--- What recasting a record to another edition answers: rules 1 to 8, then 10 and 9; the elements lost; and what the lent buffer holds afterwards. Assumes nothing.
+-- What recasting a record to another edition answers: rules 1 to 9; the elements lost; and what the lent buffer holds afterwards. Assumes nothing.
 use Prim.Native.Nat.{ℕ, _+_, _-_}
 use mathlib.Core.Bool.{cond, _&&_}
 use mathlib.Core.List.{List, [], _∷_, _++_}
@@ -11,7 +11,7 @@ use Rattle.losses.specs.declared.Losses.{Losses}
 use Rattle.layout.specs.declared.Edition.{Edition}
 use Rattle.layout.specs.declared.Named.{Named}
 use Rattle.layout.specs.declared.Named.the-variants.{Known, Unknown}
-use Rattle.layout.specs.declared.Refusal.the-variants.{Unheld, Room, NoDigit}
+use Rattle.layout.specs.declared.Refusal.the-variants.{Unheld, Room}
 use Rattle.layout.specs.Editions.{asked, editionNumber, lengthOf}
 use Rattle.layout.specs.Page.{widthOf, textOf}
 use Rattle.layout.specs.Records.{recordFrom}
@@ -25,7 +25,8 @@ use Rattle.recasting.specs.declared.Outcome.{Outcome}
 use Rattle.recasting.specs.declared.Outcome.the-variants.{Done, Unrecast}
 use Rattle.meanings.specs.Kept.{lostAt}
 
--- column 12 in the target: between edition 1 and the others the lowest digit with the same place that also keeps tie 2, else it stays; a blank place stays blank
+-- column 12 in the target: between edition 1 and the others the lowest digit with the same place that also keeps tie 2 (`every-place`: there is one), else it stays; a blank
+-- place stays blank
 unfoldable pub hemisphere : Edition → Edition → List ℕ → ℕ
 hemisphere from to xs =
     cond (crosses from to && there (textOf 6 xs))
@@ -53,11 +54,9 @@ recastText from to xs e =
 unfoldable pub recastRecord : Edition → Edition → List ℕ → List ℕ
 recastRecord from to xs = recordFrom to (recastText from to xs)
 
--- 10: no digit; 9: room
+-- 9: room
 unfoldable pub recastIn : Edition → Edition → List ℕ → ℕ → Outcome
-recastIn from to xs room =
-    cond (eqb (hemisphere from to xs) 0) (Unrecast NoDigit)
-    (cond (leb (lengthOf to) room) (Done (lossesOf (lostAt from to xs))) (Unrecast Room))
+recastIn from to xs room = cond (leb (lengthOf to) room) (Done (lossesOf (lostAt from to xs))) (Unrecast Room)
 
 -- 8: the edition that is asked for
 unfoldable pub recastTo : Edition → Named → List ℕ → ℕ → Outcome

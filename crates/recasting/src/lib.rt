@@ -112,14 +112,13 @@ fn fill(from: Edition, to: Edition, line: &[u8], row: &mut [u8])
 }
 
 // Makes the recast record in a row of the target's length.
-fn make(from: Edition, to: Edition, line: &[u8], digit: u8, row: &mut [u8])
+fn make(from: Edition, to: Edition, line: &[u8], row: &mut [u8])
     requires { ⌜ (checked (now line) ≡ Answer.Accepted from) × (length (now row) ≡ lengthOf to) ⌝ }
-    requires { ⌜ digit ≡ hemisphere from to (now line) ⌝ }
     ensures { λ _. ⌜ now (row .exit) ≡ recastRecord from to (now (line .entry)) ⌝ }
 {
     fill(from, to, line, row);
     blanking::blank_lost(from, to, row);
-    row[11] = digit;
+    row[11] = hemisphere_of(from, to, line);
     row[110] = digit_of(to);
 }
 
@@ -130,16 +129,12 @@ fn recast_in(from: Edition, to: Edition, line: &[u8], buffer: &mut [u8]) -> Outc
     ensures { λ r. ⌜ r ≡ recastIn from to (now (line .entry)) (length (now (buffer .entry))) ⌝ }
     ensures { λ r. ⌜ now (buffer .exit) ≡ filledBy from to (now (line .entry)) r (now (buffer .entry)) ⌝ }
 {
-    let digit = hemisphere_of(from, to, line);
-    if digit == 0 {
-        return Outcome::Unrecast(Refusal::NoDigit);
-    }
     let length = to.length();
     if buffer.len() < length {
         return Outcome::Unrecast(Refusal::Room);
     }
     let row = &mut buffer[..length];
-    make(from, to, line, digit, row);
+    make(from, to, line, row);
     Outcome::Done(names::losses_of(from, to, line))
 }
 

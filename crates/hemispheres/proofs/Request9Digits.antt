@@ -27,7 +27,7 @@ use Rattle.hemispheres.proofs.Demand3Digits.{digit-found, same-numbers}
 abbrev pub standing : ℕ → List ℕ
 standing digit = (48 + digit) ∷ []
 
--- what the edition `to` has for the place of a record: a digit that may stand in column 12, gives the same two numbers and keeps tie 2; and it is the one that is taken
+-- what the edition `to` has for the place of a record: a digit that may stand in column 12, gives the same two numbers and keeps tie 2, the lowest such
 pub record HasDigit (from to : Edition) (xs : List ℕ) : Type 0 where
   pub place : Place
   pub held : readingOf from xs 6 ≡ At place
@@ -35,7 +35,7 @@ pub record HasDigit (from to : Edition) (xs : List ℕ) : Type 0 where
   pub stands : mayStand to digit ≡ true
   pub gives : placeOf to (standing digit) (textOf 7 xs) (textOf 8 xs) ≡ At (record { latitude = place .latitude; longitude = place .longitude; digit = digit })
   pub ties : octantTie to (standing digit) (textOf 8 xs) ≡ true
-  pub taken : lowestDigit from to (number (textOf 6 xs)) (number (textOf 7 xs)) (number (textOf 8 xs)) ≡ 48 + digit
+  pub lowest : lowestDigit from to (number (textOf 6 xs)) (number (textOf 7 xs)) (number (textOf 8 xs)) ≡ 48 + digit
 
 -- a digit is there, and says its number
 pub digit-there : (d : ℕ) → blank (standing d) ≡ false
@@ -75,10 +75,10 @@ every-place from to xs a p =
       stands = f .stands;
       gives = read to (standing (f .digit)) (textOf 7 xs) (textOf 8 xs) (digit-there (f .digit)) q r ∙ rw (digit-number (f .digit), n .0, n .1);
       ties = digit-tied to (f .digit) (textOf 8 xs) (f .ties);
-      taken = f .is;
+      lowest = f .is;
     }
 
--- Closed cases: the digit of column 12, latitude and longitude of a record of the edition `from`, and the digits that are taken for it in editions 1, 3 and 4.
+-- Closed cases: the digit of column 12, latitude and longitude of a record of the edition `from`, and the lowest digits for it in editions 1, 3 and 4.
 record Case : Type 0 where
   from : Edition
   digit : ℕ
@@ -91,8 +91,8 @@ record Case : Type 0 where
 abbrev at : Edition → ℕ → ℕ → ℕ → ℕ → ℕ → ℕ → Case
 at from d la lo a b c = record { from = from; digit = d; latitude = la; longitude = lo; in-1 = a; in-3 = b; in-4 = c }
 
-abbrev taken-in : Edition → Case → ℕ
-taken-in to c = lowestDigit (c .from) to (c .digit) (c .latitude) (c .longitude)
+abbrev lowest-in : Edition → Case → ℕ
+lowest-in to c = lowestDigit (c .from) to (c .digit) (c .latitude) (c .longitude)
 
 -- each place as the octants of edition 1 say it, and as the quadrants of 3 and of 4 do
 abbrev places : List Case
@@ -114,6 +114,6 @@ places =
     at One 1 100 1800 1 1 1 ∷ at Three 7 100 1800 1 1 1 ∷ at Four 7 100 1800 1 1 1 ∷
     []
 
-pub cases : map (λ c. taken-in One c ∷ taken-in Three c ∷ taken-in Four c ∷ []) places ≡ map (λ c. (48 + c .in-1) ∷ (48 + c .in-3) ∷ (48 + c .in-4) ∷ []) places
+pub cases : map (λ c. lowest-in One c ∷ lowest-in Three c ∷ lowest-in Four c ∷ []) places ≡ map (λ c. (48 + c .in-1) ∷ (48 + c .in-3) ∷ (48 + c .in-4) ∷ []) places
 unfolding lowestDigit firstFrom suits allows element page every valueFrom south west octantFits
 cases = refl

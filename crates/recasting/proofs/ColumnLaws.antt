@@ -60,7 +60,7 @@ module _ (from to : Edition) (xs : List ℕ) (a : Acceptable from xs) where
       by : (x b : Bool) → crosses from to ≡ x → blank (textOf 6 xs) ≡ b → Column
       by false b f g = stays (inl f) (written false b f g ∙ own-six)
       by true true f g = stays (inr g) (written true true f g ∙ own-six)
-      by true false f g = let d = every-place from to xs a g in moves f g d (written true false f g ∙ ap (λ (n : ℕ). n ∷ []) (d .taken))
+      by true false f g = let d = every-place from to xs a g in moves f g d (written true false f g ∙ ap (λ (n : ℕ). n ∷ []) (d .lowest))
 
   -- it is there exactly where it was
   pub same-there : blank (textOf 6 (result from to xs a)) ≡ blank (textOf 6 xs)

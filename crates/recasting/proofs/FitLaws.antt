@@ -42,7 +42,7 @@ module _ (from to : Edition) (xs : List ℕ) (a : Acceptable from xs) where
   unfolding suits
   taken-lowest f =
       let g = digit-found from to (number (textOf 6 xs)) (number (textOf 7 xs)) (number (textOf 8 xs)) in
-      let same : g .digit ≡ f .digit = omega (arith, g .is, f .taken) in
+      let same : g .digit ≡ f .digit = omega (arith, g .is, f .lowest) in
       rw (← same) (record { small = g .small; suited = rw (g .stands, g .same, g .ties); lower = g .lowest })
 
   pub one-lowest : (c d : ℕ) → Lowest from to xs c → Lowest from to xs d → c ≡ d

@@ -1,4 +1,5 @@
--- Demand 3, column 12: every edition has a digit for every place, poles, equator and both forms of the date line with them. The one taken is the lowest that may stand there, gives the same signed latitude and the same east longitude, and keeps tie 2. Assumes nothing.
+-- Demand 3, column 12: the digit that is taken is the lowest that may stand there, gives the same signed latitude and the same east longitude, and keeps tie 2.
+-- Assumes nothing.
 use mathlib.Core.Path.{_≡_, refl, sym, ap, _∙_}
 use mathlib.Core.Bool.{Bool, true, false, true≢false}
 use Prim.Native.Nat.{ℕ, _+_, _-_, _≤_, _<_}

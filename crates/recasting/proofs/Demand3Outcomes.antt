@@ -4,8 +4,8 @@ use mathlib.Core.Path.{_≡_, refl, sym, ap, _∙_}
 use mathlib.Core.Logic.{_⊎_, _↔_}
 use mathlib.Core.Bool.{Bool, true, false, true≢false}
 use mathlib.Core.List.{List, [], _∷_, _++_}
-use Prim.Native.Nat.{ℕ, _<_, _≤_}
-use borrow.Author.Tests.{eqb-true, le-leb, lt-leb, leb-true, leb-false}
+use Prim.Native.Nat.{ℕ, _≤_}
+use borrow.Author.Tests.{eqb-true, leb-true, leb-false}
 use lib.Dec.{eqb, leb}
 use lib.ListN.{length, take, drop}
 use lib.Seq.{take-at, drop-at}
@@ -17,7 +17,6 @@ use Rattle.layout.specs.declared.Edition.{Edition}
 use Rattle.layout.specs.declared.Named.{Named}
 use Rattle.layout.specs.declared.Named.the-variants.{Known, Unknown}
 use Rattle.layout.specs.declared.Refusal.{Refusal}
-use Rattle.layout.specs.declared.Refusal.the-variants.{Room}
 use Rattle.layout.specs.Editions.{asked, lengthOf}
 use Rattle.layout.specs.Page.{textOf}
 use Rattle.ties.specs.Ties.{there}
@@ -36,22 +35,13 @@ use Rattle.meanings.specs.Kept.{lostAt}
 use Rattle.recasting.specs.Recast.{digitOf, recastRecord, recastIn, recastTo, recastAfter, recastOf, filledBy, leftTo, leftAfter, leftOf, outcomeLosses}
 use Rattle.meanings.specs.Lost.{Expressible}
 use Rattle.recasting.specs.Fits.{Names, Fits, refused, unheld, cramped, recast}
+use Rattle.recasting.proofs.RecastLaws.{is-done, no-room}
 use Rattle.recasting.proofs.ResultLaws.{result-long}
 use Rattle.recasting.proofs.NeverLaws as Never
 use Rattle.recasting.proofs.FitLaws.{result-fits, only-record}
 use Rattle.recasting.proofs.Demand3Accepted.{version-text, recast-is-accepted}
 use Rattle.recasting.proofs.Demand3Meaning.{kept-or-blank, blank-exactly, lost-exactly}
 use Rattle.recasting.proofs.Demand3Losses.{Listed, losses-listed}
-
--- the room decides
-module _ (from to : Edition) (xs : List ℕ) (room : ℕ) where
-  pub is-done : lengthOf to ≤ room → recastIn from to xs room ≡ Done (lossesOf (lostAt from to xs))
-  unfolding recastIn
-  is-done h = rw (le-leb (lengthOf to) room h)
-
-  pub no-room : room < lengthOf to → recastIn from to xs room ≡ Unrecast Room
-  unfolding recastIn
-  no-room h = rw (lt-leb (lengthOf to) room h)
 
 -- What a call that succeeds leaves in the lent buffer: a record in front, and behind it what stood there.
 abbrev pub front : Edition → List ℕ → ℕ → List ℕ → List ℕ

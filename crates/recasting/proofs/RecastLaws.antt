@@ -29,18 +29,28 @@ pub own-texts : (from : Edition) (xs : List ℕ) → checked xs ≡ Accepted fro
 unfolding legal
 own-texts from xs ok = let a = accepted-exactly xs from .0 ok in (a .full, a .lawful)
 
--- the outcome by the room, and what it leaves
+-- the outcome by the room
+module _ (from to : Edition) (xs : List ℕ) (room : ℕ) where
+  pub is-done : lengthOf to ≤ room → recastIn from to xs room ≡ Done (lossesOf (lostAt from to xs))
+  unfolding recastIn
+  is-done h = rw (le-leb (lengthOf to) room h)
+
+  pub no-room : room < lengthOf to → recastIn from to xs room ≡ Unrecast Room
+  unfolding recastIn
+  no-room h = rw (lt-leb (lengthOf to) room h)
+
+-- and what it leaves
 module _ (from to : Edition) (xs before : List ℕ) (n : ℕ) (g : n ≡ lengthOf to) where
-  pub no-room : length before < n → (Unrecast Room ≡ recastIn from to xs (length before)) × (before ≡ filledBy from to xs (Unrecast Room) before)
-  unfolding recastIn filledBy
-  no-room h = (rw (lt-leb (lengthOf to) (length before) (omega arith)), refl)
+  pub left-alone : length before < n → (Unrecast Room ≡ recastIn from to xs (length before)) × (before ≡ filledBy from to xs (Unrecast Room) before)
+  unfolding filledBy
+  left-alone h = (sym (no-room from to xs (length before) (omega arith)), refl)
 
   -- the record in front of what stood behind it
   pub done : n ≤ length before → (losses : Losses) → losses ≡ lossesOf (lostAt from to xs) → (row : List ℕ) → row ≡ recastRecord from to xs →
       (Done losses ≡ recastIn from to xs (length before)) × (row ++ drop n before ≡ filledBy from to xs (Done losses) before)
-  unfolding recastIn filledBy
+  unfolding filledBy
   done h losses k row l = (
-    ap Done k ∙ rw (le-leb (lengthOf to) (length before) (omega arith)),
+    ap Done k ∙ sym (is-done from to xs (length before) (omega arith)),
     ap (λ (t : List ℕ). t ++ drop n before) l ∙ ap (λ (k : ℕ). recastRecord from to xs ++ drop k before) g,
   )
 

@@ -2,7 +2,7 @@
 use borrow.Author.Needs.{needs}
 use mathlib.Core.Path.{sym, _∙_}
 use Rattle.text.proofs.Parts.{front-length}
-use Rattle.recasting.proofs.RecastLaws.{own-texts, no-room, done}
+use Rattle.recasting.proofs.RecastLaws.{own-texts, left-alone, done}
 use Rattle.recasting.proofs.recast_in.Statement.{statement}
 use Rattle.recasting.proofs.recast_in.Tie as tie
 
@@ -10,7 +10,7 @@ length-requires : tie.Need-length-requires
 length-requires c κs = search needs
 
 returns : tie.Need-returns
-returns c = no-room _ _ _ _ _ (c .before .length .ensures) (c .if1 .taken)
+returns c = left-alone _ _ _ _ _ (c .before .length .ensures) (c .if1 .taken)
 
 slice-relend-prefix-row : tie.Need-slice-relend-prefix-row
 slice-relend-prefix-row c = search needs

@@ -164,8 +164,8 @@ module _ (ed : Edition) (xs : List ℕ) (full : length xs ≡ lengthOf ed) (cols
     unfolding textOf startOf columns element page bondAt bonds bondsFrom inside after
     tie-6 = signed-at 88 (omega (arith, shortest ed)) (temps .1 .1) refl refl refl (digits-of 51 0 999 refl (in-each ed 51 (Within 0 999) refl refl refl) (omega arith) (omega arith))
 
-    tie-7 : digitTie (textOf 1 xs) (textOf 17 xs) (textOf 19 xs) (textOf 29 xs) (textOf 51 xs) ≡ true
-    unfolding textOf startOf columns element page digitTie
+    tie-7 : tie ed xs 7 ≡ true
+    unfolding textOf startOf columns element page tie digitTie
     tie-7 =
         let l = shortest ed in
         let one : take 1 (drop 0 xs) ≡ getD xs 0 0 ∷ [] = one-column xs 0 (omega (arith, full)) in
@@ -238,7 +238,7 @@ held-at (t ∷ ts) a (suc k) = held-at ts (a .1) k
 
 module _ (ed : Edition) (xs : List ℕ) (full : length xs ≡ lengthOf ed) (cols : Columns ed xs) (legal-at : (e : ℕ) → 1 ≤ e → e ≤ lastOf ed → legal ed xs e ≡ true) (temps : Temperatures xs) where
   all-hold : octantTie ed (textOf 6 xs) (textOf 8 xs) ≡ true → windTie (textOf 93 xs) (textOf 14 xs) ≡ true → AllHold (ties ed xs)
-  unfolding AllHold
+  unfolding AllHold tie
   all-hold octant swift =
       let l = legal-at in
       (refl, (tie-1 ed xs full cols l temps, (octant, (tie-3 ed xs full cols l temps, (tie-4 ed xs full cols l temps, (tie-5 ed xs full cols l temps, (tie-6 ed xs full cols l temps, (tie-7 ed xs full cols l temps, (tie-8 ed xs full cols l, (swift, tt))))))))))

@@ -12,7 +12,8 @@ use Rattle.layout.specs.declared.Edition.{Edition}
 use Rattle.layout.specs.declared.Edition.the-variants.{One, Three, Four}
 use Rattle.layout.specs.Editions.{lastOf}
 use Rattle.layout.specs.Page.{textOf}
-use Rattle.ties.specs.Ties.{placeTie, octantTie, signTie, digitTie, windTie, tie}
+use Rattle.ties.specs.Ties.{placeTie, octantTie, windTie, tie}
+use Rattle.ties.proofs.Looks.{elementsOf, same-tie}
 use Rattle.checking.specs.Acceptable.{Acceptable}
 use Rattle.hemispheres.specs.Digits.{crosses}
 use Rattle.meanings.specs.Kept.{lostAt}
@@ -73,28 +74,25 @@ module _ (from to : Edition) (xs : List ℕ) (a : Acceptable from xs) where
       by (stays w e) = ap (λ (t : List ℕ). octantTie to t (textOf 8 xs)) e ∙ ⊎-elim (λ c. within-tied from to (textOf 6 xs) (textOf 8 xs) c was) (λ b. tied-blank to (textOf 6 xs) (textOf 8 xs) b) w
       by (moves c b f e) = ap (λ (t : List ℕ). octantTie to t (textOf 8 xs)) e ∙ f .ties
 
-  -- a sign and its temperature, a wind and its indicator
-  sign-tied : (e f : ℕ) → Same e → Same f → signTie (textOf e xs) (textOf f xs) ≡ true → signTie (textOf e (result from to xs a)) (textOf f (result from to xs a)) ≡ true
-  sign-tied e f p q h = ap (λ (t : List ℕ). signTie t (textOf f (result from to xs a))) p ∙ ap (signTie (textOf e xs)) q ∙ h
+  -- a tie of elements that are never lost
+  kept : (k : ℕ) → every steady (elementsOf k) ≡ true → tie to xs k ≡ true → tie to (result from to xs a) k ≡ true
+  kept k s h = same-tie to (result from to xs a) xs steady unchanged k s ∙ h
 
-  wind-tied : (e : ℕ) → Same e → windTie (textOf e xs) (textOf 14 xs) ≡ true → windTie (textOf e (result from to xs a)) (textOf 14 (result from to xs a)) ≡ true
-  wind-tied e p h = ap (λ (t : List ℕ). windTie t (textOf 14 (result from to xs a))) p ∙ ap (windTie (textOf e xs)) (unchanged 14 refl) ∙ h
-
-  digits-tied : digitTie (textOf 1 xs) (textOf 17 xs) (textOf 19 xs) (textOf 29 xs) (textOf 51 xs) ≡ true →
-      digitTie (textOf 1 (result from to xs a)) (textOf 17 (result from to xs a)) (textOf 19 (result from to xs a)) (textOf 29 (result from to xs a)) (textOf 51 (result from to xs a)) ≡ true
-  digits-tied h = rw ((unchanged 1 refl), (unchanged 17 refl), (unchanged 19 refl), (unchanged 29 refl), (unchanged 51 refl)) h
+  speed-tied : Same 93 → tie to (result from to xs a) 9 ≡ true
+  unfolding tie
+  speed-tied p = ap (λ (t : List ℕ). windTie t (textOf 14 (result from to xs a))) p ∙ ap (windTie (textOf 93 xs)) (unchanged 14 refl) ∙ a .tied 9 (lit≤ tt) (lit≤ tt)
 
   pub ties-kept : (k : ℕ) → 1 ≤ k → k ≤ 9 → tie to (result from to xs a) k ≡ true
-  unfolding tie
+  unfolding tie every
   ties-kept zero h l = absurd (omega arith)
   ties-kept (suc zero) h l = place-tied
   ties-kept (suc (suc zero)) h l = octant-tied
-  ties-kept (suc (suc (suc zero))) h l = sign-tied 16 17 (unchanged 16 refl) (unchanged 17 refl) (a .tied 3 (lit≤ tt) (lit≤ tt))
-  ties-kept (suc (suc (suc (suc zero)))) h l = sign-tied 18 19 (unchanged 18 refl) (unchanged 19 refl) (a .tied 4 (lit≤ tt) (lit≤ tt))
-  ties-kept (suc (suc (suc (suc (suc zero))))) h l = sign-tied 28 29 (unchanged 28 refl) (unchanged 29 refl) (a .tied 5 (lit≤ tt) (lit≤ tt))
-  ties-kept (suc (suc (suc (suc (suc (suc zero)))))) h l = sign-tied 50 51 (unchanged 50 refl) (unchanged 51 refl) (a .tied 6 (lit≤ tt) (lit≤ tt))
-  ties-kept (suc (suc (suc (suc (suc (suc (suc zero))))))) h l = digits-tied (a .tied 7 (lit≤ tt) (lit≤ tt))
-  ties-kept (suc (suc (suc (suc (suc (suc (suc (suc zero)))))))) h l = wind-tied 15 (unchanged 15 refl) (a .tied 8 (lit≤ tt) (lit≤ tt))
+  ties-kept (suc (suc (suc zero))) h l = kept 3 refl (a .tied 3 (lit≤ tt) (lit≤ tt))
+  ties-kept (suc (suc (suc (suc zero)))) h l = kept 4 refl (a .tied 4 (lit≤ tt) (lit≤ tt))
+  ties-kept (suc (suc (suc (suc (suc zero))))) h l = kept 5 refl (a .tied 5 (lit≤ tt) (lit≤ tt))
+  ties-kept (suc (suc (suc (suc (suc (suc zero)))))) h l = kept 6 refl (a .tied 6 (lit≤ tt) (lit≤ tt))
+  ties-kept (suc (suc (suc (suc (suc (suc (suc zero))))))) h l = kept 7 refl (a .tied 7 (lit≤ tt) (lit≤ tt))
+  ties-kept (suc (suc (suc (suc (suc (suc (suc (suc zero)))))))) h l = kept 8 refl (a .tied 8 (lit≤ tt) (lit≤ tt))
   ties-kept (suc (suc (suc (suc (suc (suc (suc (suc (suc zero))))))))) h l =
-      ⊎-elim (no-speed (textOf 93 (result from to xs a)) (textOf 14 (result from to xs a))) (λ s. wind-tied 93 s (a .tied 9 (lit≤ tt) (lit≤ tt))) speed-or-blank
+      ⊎-elim (no-speed (textOf 93 (result from to xs a)) (textOf 14 (result from to xs a))) speed-tied speed-or-blank
   ties-kept (suc (suc (suc (suc (suc (suc (suc (suc (suc (suc k)))))))))) h l = absurd (omega arith)

@@ -10,7 +10,7 @@ use mathlib.Core.Logic.{⊎-elim}
 use lib.ListN.{List·getD-eq-default}
 use Rattle.text.specs.Bytes.{number}
 use Rattle.text.proofs.Ways.{and-stops, and-goes-on}
-use Rattle.ties.specs.Ties.{there, placeTie, octantFits, negative, signTie, lastDigit, digitTie, ties, tie}
+use Rattle.ties.specs.Ties.{there, placeTie, octantFits, negative, signTie, ties, tie}
 use Rattle.layout.specs.declared.Edition.{Edition}
 
 -- two texts: both there or both blank
@@ -44,11 +44,6 @@ module _ {A : Type 0} {r : Bool} where
 
   pub of-three : (f : A → A → A → Bool) {a a′ b b′ c c′ : A} → r ≡ f a b c → a ≡ a′ → b ≡ b′ → c ≡ c′ → r ≡ f a′ b′ c′
   of-three f {a} {a′} {b} {b′} {c} {c′} e p q s = of-two (λ x y. f x y c′) (e ∙ ap (f a b) s) p q
-
-pub of-five : (t : List ℕ) (u v w x : List ℕ) {r : Bool} {f a b c d : ℕ} → r ≡ (lastDigit f a && (lastDigit f b && (lastDigit f c && lastDigit f d))) →
-    f ≡ number t → a ≡ number u → b ≡ number v → c ≡ number w → d ≡ number x → r ≡ digitTie t u v w x
-unfolding digitTie
-of-five t u v w x e p q r s z = e ∙ rw (p, q, r, s, z)
 
 beyond : {n k : ℕ} → n ≤ k → (k ≡ n → ⊥) → suc n ≤ k
 beyond h f = omega arith

@@ -38,9 +38,11 @@ signTie sign value = Bool·beq (there sign) (there value) && not (negative (numb
 unfoldable pub lastDigit : ℕ → ℕ → Bool
 lastDigit format value = cond (eqb format 4) (eqb (value % 10) 0 || eqb (value % 10) 5) (cond (eqb format 5) (eqb (value % 10) 0) true)
 
+abbrev pub tenthsFit : List ℕ → List ℕ → Bool
+tenthsFit format value = lastDigit (number format) (number value)
+
 unfoldable pub digitTie : List ℕ → List ℕ → List ℕ → List ℕ → List ℕ → Bool
-digitTie format air dewPoint sea wetBulb =
-    lastDigit (number format) (number air) && (lastDigit (number format) (number dewPoint) && (lastDigit (number format) (number sea) && lastDigit (number format) (number wetBulb)))
+digitTie format air dewPoint sea wetBulb = tenthsFit format air && (tenthsFit format dewPoint && (tenthsFit format sea && tenthsFit format wetBulb))
 
 -- 8, 9. ff needs iw; RWS needs iw
 unfoldable pub windTie : List ℕ → List ℕ → Bool

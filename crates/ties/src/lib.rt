@@ -1,7 +1,8 @@
 // The ties between elements.
 //
-// Each tie is a test of the texts of its elements, and `holds` hands it their columns. Columns that
-// a record does not have are taken as blank, so no tie asks how long the record is.
+// Each tie is a test of the texts of its elements. `holds` hands it their columns; tie 7, which looks at
+// many, takes them itself. Columns that a record does not have are taken as blank, so no tie asks how long
+// the record is.
 use layout::Edition;
 use layout::page;
 ghost use mathlib.Core.Path.{_≡_};
@@ -10,7 +11,7 @@ ghost use Prim.Native.Nat.{_≤_};
 ghost use lib.Dec.{eqb};
 ghost use lib.ListN.{length};
 ghost use Rattle.text.specs.First.{firstOf};
-ghost use Rattle.ties.specs.Ties.{there, placeTie, octantFits, octantTie, negative, signTie, lastDigit, digitTie, windTie, tie};
+ghost use Rattle.ties.specs.Ties.{there, placeTie, octantFits, octantTie, negative, signTie, lastDigit, tenthsFit, windTie, tie};
 
 // Is the element filled?
 fn is_there(text: &[u8]) -> bool
@@ -94,20 +95,31 @@ fn last_digit(format: u32, value: u32) -> bool
     true
 }
 
-// Tie 7.
-fn digit_tie(format: u32, air: u32, dew_point: u32, sea: u32, wet_bulb: u32) -> bool
-    ensures { λ r. ⌜ r ≡ (lastDigit format air && (lastDigit format «dew_point» && (lastDigit format sea && lastDigit format «wet_bulb»))) ⌝ }
+// The same of their texts.
+fn tenths_fit(format: &[u8], value: &[u8]) -> bool
+    requires { ⌜ (length (now format) ≤ 7) × (length (now value) ≤ 7) ⌝ }
+    ensures { λ r. ⌜ r ≡ tenthsFit (now (format .entry)) (now (value .entry)) ⌝ }
 {
-    if !last_digit(format, air) {
-        return false;
-    }
-    if !last_digit(format, dew_point) {
-        return false;
-    }
-    if !last_digit(format, sea) {
-        return false;
-    }
-    last_digit(format, wet_bulb)
+    last_digit(text::number_of(format), text::number_of(value))
+}
+
+// Do both hold?
+fn both(first: bool, second: bool) -> bool
+    ensures { λ r. ⌜ r ≡ (first && second) ⌝ }
+{
+    first && second
+}
+
+// Tie 7, which is the same in every edition.
+fn digit_tie(line: &[u8]) -> bool
+    ensures { λ r. ⌜ ((ed : Edition) → r ≡ tie ed (now (line .entry)) 7) ⌝ }
+{
+    let format = page::columns(line, 0, 1);
+    let air = tenths_fit(format, page::columns(line, 30, 3));
+    let dew_point = tenths_fit(format, page::columns(line, 34, 3));
+    let sea = tenths_fit(format, page::columns(line, 50, 3));
+    let wet_bulb = tenths_fit(format, page::columns(line, 89, 3));
+    both(air, both(dew_point, both(sea, wet_bulb)))
 }
 
 // Ties 8 and 9.
@@ -136,13 +148,7 @@ fn holds(edition: Edition, line: &[u8], k: usize) -> bool
         4 => sign_tie(page::columns(line, 33, 1), page::columns(line, 34, 3)),
         5 => sign_tie(page::columns(line, 49, 1), page::columns(line, 50, 3)),
         6 => sign_tie(page::columns(line, 88, 1), page::columns(line, 89, 3)),
-        7 => digit_tie(
-            text::number_of(page::columns(line, 0, 1)),
-            text::number_of(page::columns(line, 30, 3)),
-            text::number_of(page::columns(line, 34, 3)),
-            text::number_of(page::columns(line, 50, 3)),
-            text::number_of(page::columns(line, 89, 3)),
-        ),
+        7 => digit_tie(line),
         8 => wind_tie(page::columns(line, 27, 2), page::columns(line, 26, 1)),
         9 => wind_tie(page::columns(line, 148, 3), page::columns(line, 26, 1)),
         _ => true,

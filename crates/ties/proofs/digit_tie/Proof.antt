@@ -1,43 +1,76 @@
--- `ties::digit_tie` meets its contract. Assumes nothing.
-use Rattle.text.proofs.Ways.{and-fails, and-goes-on}
+-- `ties::digit_tie` meets its contract: its columns are those of tie 7's elements. Assumes nothing.
+use mathlib.Core.Bool.{_&&_}
+use Rattle.layout.specs.Page.{textOf, startOf, element, columns, page}
+use Rattle.ties.specs.Ties.{tenthsFit, digitTie}
+use Rattle.ties.specs.Ties as Ties
+use Rattle.ties.proofs.TieLaws.{of-two}
 use borrow.Author.Needs.{needs}
-use borrow.Author.Tests.{not-false, not-true}
 use Rattle.ties.proofs.digit_tie.Statement.{statement}
 use Rattle.ties.proofs.digit_tie.Tie as tie
 
-last-digit-requires : tie.Need-last-digit-requires
-last-digit-requires c κs = search needs
+columns-requires : tie.Need-columns-requires
+columns-requires c κs = search needs
+
+columns-requires-2 : tie.Need-columns-requires-2
+columns-requires-2 c κs = search needs
+
+tenths-fit-requires : tie.Need-tenths-fit-requires
+tenths-fit-requires c κs = search needs
+
+columns-requires-3 : tie.Need-columns-requires-3
+columns-requires-3 c κs = search needs
+
+tenths-fit-requires-2 : tie.Need-tenths-fit-requires-2
+tenths-fit-requires-2 c κs = search needs
+
+columns-requires-4 : tie.Need-columns-requires-4
+columns-requires-4 c κs = search needs
+
+tenths-fit-requires-3 : tie.Need-tenths-fit-requires-3
+tenths-fit-requires-3 c κs = search needs
+
+columns-requires-5 : tie.Need-columns-requires-5
+columns-requires-5 c κs = search needs
+
+tenths-fit-requires-4 : tie.Need-tenths-fit-requires-4
+tenths-fit-requires-4 c κs = search needs
+
+both-requires : tie.Need-both-requires
+both-requires c κs = search needs
+
+both-requires-2 : tie.Need-both-requires-2
+both-requires-2 c κs = search needs
+
+both-requires-3 : tie.Need-both-requires-3
+both-requires-3 c κs = search needs
 
 returns : tie.Need-returns
-returns c = and-fails _ _ (c .before .last-digit .ensures) _ (not-true _ (c .if1 .taken))
-
-last-digit-requires-2 : tie.Need-last-digit-requires-2
-last-digit-requires-2 c κs = search needs
-
-returns-2 : tie.Need-returns-2
-returns-2 c = and-goes-on _ _ (c .before .before .before .last-digit .ensures) _ _ (not-false _ (c .before .before .if1 .left)) (and-fails _ _ (c .before .last-digit2 .ensures) _ (not-true _ (c .if2 .taken)))
-
-last-digit-requires-3 : tie.Need-last-digit-requires-3
-last-digit-requires-3 c κs = search needs
-
-returns-3 : tie.Need-returns-3
-returns-3 c = and-goes-on _ _ (c .before .before .before .before .before .last-digit .ensures) _ _ (not-false _ (c .before .before .before .before .if1 .left)) (and-goes-on _ _ (c .before .before .before .last-digit2 .ensures) _ _ (not-false _ (c .before .before .if2 .left)) (and-fails _ _ (c .before .last-digit3 .ensures) _ (not-true _ (c .if3 .taken))))
-
-last-digit-requires-4 : tie.Need-last-digit-requires-4
-last-digit-requires-4 c κs = search needs
-
-returns-4 : tie.Need-returns-4
-returns-4 c = and-goes-on _ _ (c .before .before .before .before .before .before .last-digit .ensures) _ _ (not-false _ (c .before .before .before .before .before .if1 .left)) (and-goes-on _ _ (c .before .before .before .before .last-digit2 .ensures) _ _ (not-false _ (c .before .before .before .if2 .left)) (and-goes-on _ _ (c .before .before .last-digit3 .ensures) _ _ (not-false _ (c .before .if3 .left)) (c .last-digit4 .ensures)))
+unfolding Ties.tie digitTie textOf startOf element columns page
+returns c = λ ed.
+    let wet-bulb = c .before .before .before in
+    let sea = wet-bulb .before .before in
+    let dew-point = sea .before .before in
+    let air = dew-point .before .before in
+    let format = air .before .before .columns .ensures .0 in
+    of-two _&&_ (c .both3 .ensures) (of-two tenthsFit (air .tenths-fit .ensures) format (air .before .columns2 .ensures .0))
+    (of-two _&&_ (c .before .both2 .ensures) (of-two tenthsFit (dew-point .tenths-fit2 .ensures) format (dew-point .before .columns3 .ensures .0))
+    (of-two _&&_ (c .before .before .both .ensures) (of-two tenthsFit (sea .tenths-fit3 .ensures) format (sea .before .columns4 .ensures .0))
+    (of-two tenthsFit (wet-bulb .tenths-fit4 .ensures) format (wet-bulb .before .columns5 .ensures .0))))
 
 pub digit-tie-spec : {M : Type 1} → statement M
 digit-tie-spec =
     tie.close
     (tie.spec
-    last-digit-requires
-    returns
-    last-digit-requires-2
-    returns-2
-    last-digit-requires-3
-    returns-3
-    last-digit-requires-4
-    returns-4)
+    columns-requires
+    columns-requires-2
+    tenths-fit-requires
+    columns-requires-3
+    tenths-fit-requires-2
+    columns-requires-4
+    tenths-fit-requires-3
+    columns-requires-5
+    tenths-fit-requires-4
+    both-requires
+    both-requires-2
+    both-requires-3
+    returns)

@@ -1,8 +1,7 @@
 -- `ties::holds` meets its contract: an arm a tie, whose columns are those of its elements. Assumes nothing.
 use Prim.Native.Nat.{ℕ}
-use Rattle.ties.proofs.TieLaws.{no-tie, of-five, of-three, of-two}
+use Rattle.ties.proofs.TieLaws.{no-tie, of-three, of-two}
 use Rattle.ties.specs.Ties.{octantTie, placeTie, signTie, tie, windTie}
-use Rattle.text.specs.Bytes.{number}
 use borrow.Author.Needs.{needs}
 use mathlib.Core.Path.{_∙_, _≡_, ap, sym}
 use Rattle.layout.specs.Page.{textOf, startOf, element, columns, page}
@@ -71,53 +70,23 @@ columns-requires-13 c κs = search needs
 sign-tie-requires-4 : tie.Need-sign-tie-requires-4
 sign-tie-requires-4 c κs = search needs
 
+digit-tie-requires : tie.Need-digit-tie-requires
+digit-tie-requires c κs = search needs
+
 columns-requires-14 : tie.Need-columns-requires-14
 columns-requires-14 c κs = search needs
-
-number-of-requires : tie.Need-number-of-requires
-number-of-requires c κs = search needs
 
 columns-requires-15 : tie.Need-columns-requires-15
 columns-requires-15 c κs = search needs
 
-number-of-requires-2 : tie.Need-number-of-requires-2
-number-of-requires-2 c κs = search needs
+wind-tie-requires : tie.Need-wind-tie-requires
+wind-tie-requires c κs = search needs
 
 columns-requires-16 : tie.Need-columns-requires-16
 columns-requires-16 c κs = search needs
 
-number-of-requires-3 : tie.Need-number-of-requires-3
-number-of-requires-3 c κs = search needs
-
 columns-requires-17 : tie.Need-columns-requires-17
 columns-requires-17 c κs = search needs
-
-number-of-requires-4 : tie.Need-number-of-requires-4
-number-of-requires-4 c κs = search needs
-
-columns-requires-18 : tie.Need-columns-requires-18
-columns-requires-18 c κs = search needs
-
-number-of-requires-5 : tie.Need-number-of-requires-5
-number-of-requires-5 c κs = search needs
-
-digit-tie-requires : tie.Need-digit-tie-requires
-digit-tie-requires c κs = search needs
-
-columns-requires-19 : tie.Need-columns-requires-19
-columns-requires-19 c κs = search needs
-
-columns-requires-20 : tie.Need-columns-requires-20
-columns-requires-20 c κs = search needs
-
-wind-tie-requires : tie.Need-wind-tie-requires
-wind-tie-requires c κs = search needs
-
-columns-requires-21 : tie.Need-columns-requires-21
-columns-requires-21 c κs = search needs
-
-columns-requires-22 : tie.Need-columns-requires-22
-columns-requires-22 c κs = search needs
 
 wind-tie-requires-2 : tie.Need-wind-tie-requires-2
 wind-tie-requires-2 c κs = search needs
@@ -147,16 +116,15 @@ unfolding Ties.tie textOf startOf element columns page
 returns-6 c = of-two signTie (c .sign-tie4 .ensures) (c .before .before .columns12 .ensures .0) (c .before .columns13 .ensures .0) ∙ at-tie (c .before .before .before .before .before) (c .before .before .before .match .keys6)
 
 returns-7 : tie.Need-returns-7
-unfolding Ties.tie textOf startOf element columns page
-returns-7 c = of-five _ _ _ _ _ (c .digit-tie .ensures) (c .before .before .before .before .before .before .before .before .before .number-of .ensures ∙ ap number (c .before .before .before .before .before .before .before .before .before .before .columns14 .ensures .0)) (c .before .before .before .before .before .before .before .number-of2 .ensures ∙ ap number (c .before .before .before .before .before .before .before .before .columns15 .ensures .0)) (c .before .before .before .before .before .number-of3 .ensures ∙ ap number (c .before .before .before .before .before .before .columns16 .ensures .0)) (c .before .before .before .number-of4 .ensures ∙ ap number (c .before .before .before .before .columns17 .ensures .0)) (c .before .number-of5 .ensures ∙ ap number (c .before .before .columns18 .ensures .0)) ∙ at-tie (c .before .before .before .before .before .before .before .before .before .before .before .before .before) (c .before .before .before .before .before .before .before .before .before .before .before .match .keys7)
+returns-7 c = c .digit-tie .ensures _ ∙ at-tie (c .before .before .before) (c .before .match .keys7)
 
 returns-8 : tie.Need-returns-8
 unfolding Ties.tie textOf startOf element columns page
-returns-8 c = of-two windTie (c .wind-tie .ensures) (c .before .before .columns19 .ensures .0) (c .before .columns20 .ensures .0) ∙ at-tie (c .before .before .before .before .before) (c .before .before .before .match .keys8)
+returns-8 c = of-two windTie (c .wind-tie .ensures) (c .before .before .columns14 .ensures .0) (c .before .columns15 .ensures .0) ∙ at-tie (c .before .before .before .before .before) (c .before .before .before .match .keys8)
 
 returns-9 : tie.Need-returns-9
 unfolding Ties.tie textOf startOf element columns page
-returns-9 c = of-two windTie (c .wind-tie2 .ensures) (c .before .before .columns21 .ensures .0) (c .before .columns22 .ensures .0) ∙ at-tie (c .before .before .before .before .before) (c .before .before .before .match .keys9)
+returns-9 c = of-two windTie (c .wind-tie2 .ensures) (c .before .before .columns16 .ensures .0) (c .before .columns17 .ensures .0) ∙ at-tie (c .before .before .before .before .before) (c .before .before .before .match .keys9)
 
 returns-10 : tie.Need-returns-10
 returns-10 c = no-tie _ _ _ (c .match .rest .0 .0 .0 .0 .0 .0 .0 .0 .1) (c .match .rest .0 .0 .0 .0 .0 .0 .0 .1) (c .match .rest .0 .0 .0 .0 .0 .0 .1) (c .match .rest .0 .0 .0 .0 .0 .1) (c .match .rest .0 .0 .0 .0 .1) (c .match .rest .0 .0 .0 .1) (c .match .rest .0 .0 .1) (c .match .rest .0 .1) (c .match .rest .1)
@@ -184,22 +152,12 @@ holds-spec =
     columns-requires-12
     columns-requires-13
     sign-tie-requires-4
-    columns-requires-14
-    number-of-requires
-    columns-requires-15
-    number-of-requires-2
-    columns-requires-16
-    number-of-requires-3
-    columns-requires-17
-    number-of-requires-4
-    columns-requires-18
-    number-of-requires-5
     digit-tie-requires
-    columns-requires-19
-    columns-requires-20
+    columns-requires-14
+    columns-requires-15
     wind-tie-requires
-    columns-requires-21
-    columns-requires-22
+    columns-requires-16
+    columns-requires-17
     wind-tie-requires-2
     returns
     returns-2

@@ -1,0 +1,80 @@
+-- A tie looks at the texts of its own elements and at nothing else: two records with the same texts there keep it or break it together. Assumes nothing.
+use mathlib.Core.Path.{_≡_, refl}
+use mathlib.Core.Bool.{Bool, true, _&&_}
+use mathlib.Core.List.{List, [], _∷_}
+use Prim.Native.Nat.{ℕ, zero, suc}
+use lib.ListN.{getD}
+use Rattle.text.specs.Bytes.{every}
+use Rattle.text.proofs.Ways.{and-first, and-second}
+use Rattle.layout.specs.declared.Edition.{Edition}
+use Rattle.layout.specs.Page.{textOf}
+use Rattle.ties.specs.Ties.{placeTie, octantTie, signTie, digitTie, windTie, ties, tie}
+
+-- the elements of each tie, by its number
+abbrev pub looks : List (List ℕ)
+looks =
+    [] ∷
+    (6 ∷ 7 ∷ 8 ∷ []) ∷
+    (6 ∷ 8 ∷ []) ∷
+    (16 ∷ 17 ∷ []) ∷
+    (18 ∷ 19 ∷ []) ∷
+    (28 ∷ 29 ∷ []) ∷
+    (50 ∷ 51 ∷ []) ∷
+    (1 ∷ 17 ∷ 19 ∷ 29 ∷ 51 ∷ []) ∷
+    (15 ∷ 14 ∷ []) ∷
+    (93 ∷ 14 ∷ []) ∷
+    []
+
+abbrev pub elementsOf : ℕ → List ℕ
+elementsOf k = getD looks k []
+
+module _ (ed : Edition) (xs ys : List ℕ) where
+  -- the same texts in some elements
+  infixr 4 _and_
+  data Alike : List ℕ → Type 0 where
+    none : Alike []
+    _and_ : {e : ℕ} {es : List ℕ} → textOf e xs ≡ textOf e ys → Alike es → Alike (e ∷ es)
+
+  two : (f : List ℕ → List ℕ → Bool) {a b : ℕ} → Alike (a ∷ b ∷ []) → f (textOf a xs) (textOf b xs) ≡ f (textOf a ys) (textOf b ys)
+  two f (p and (q and none)) = rw (p, q)
+
+  three : (f : List ℕ → List ℕ → List ℕ → Bool) {a b c : ℕ} → Alike (a ∷ b ∷ c ∷ []) → f (textOf a xs) (textOf b xs) (textOf c xs) ≡ f (textOf a ys) (textOf b ys) (textOf c ys)
+  three f (p and (q and (r and none))) = rw (p, q, r)
+
+  digits : {a b c d e : ℕ} → Alike (a ∷ b ∷ c ∷ d ∷ e ∷ []) →
+      digitTie (textOf a xs) (textOf b xs) (textOf c xs) (textOf d xs) (textOf e xs) ≡ digitTie (textOf a ys) (textOf b ys) (textOf c ys) (textOf d ys) (textOf e ys)
+  digits (p and (q and (r and (s and (t and none))))) = rw (p, q, r, s, t)
+
+  -- two lists of tests, each of which goes by the texts of the elements beside it
+  infixr 4 _then_
+  data Agree : List Bool → List Bool → List (List ℕ) → Type 0 where
+    last : Agree [] [] []
+    _then_ : {t u : Bool} {ts us : List Bool} {es : List ℕ} {ess : List (List ℕ)} → (Alike es → t ≡ u) → Agree ts us ess → Agree (t ∷ ts) (u ∷ us) (es ∷ ess)
+
+  agree-at : {ts us : List Bool} {ess : List (List ℕ)} → Agree ts us ess → (k : ℕ) → Alike (getD ess k []) → getD ts k true ≡ getD us k true
+  agree-at last k h = refl
+  agree-at (f then a) zero h = f h
+  agree-at (f then a) (suc k) h = agree-at a k h
+
+  all-agree : Agree (ties ed xs) (ties ed ys) looks
+  all-agree =
+      (λ s. refl) then
+      three placeTie then
+      two (octantTie ed) then
+      two signTie then
+      two signTie then
+      two signTie then
+      two signTie then
+      digits then
+      two windTie then
+      two windTie then
+      last
+
+  -- where the texts of certain elements are the same, so is each tie that looks at no others
+  pub same-tie : (same : ℕ → Bool) → ((e : ℕ) → same e ≡ true → textOf e xs ≡ textOf e ys) → (k : ℕ) → every same (elementsOf k) ≡ true → tie ed xs k ≡ tie ed ys k
+  unfolding tie every
+  same-tie same alike k h = agree-at all-agree k (each (elementsOf k) h)
+    where
+      each : (es : List ℕ) → every same es ≡ true → Alike es
+      each [] h = none
+      each (e ∷ es) h = alike e (and-first _ _ h) and each es (and-second (same e) _ h)

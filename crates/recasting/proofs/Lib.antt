@@ -13,4 +13,3 @@ pub mod Demand3Meaning
 pub mod Demand3Losses
 pub mod FitLaws
 pub mod Demand3Outcomes
-pub mod WorkedCases

@@ -1,3 +1,2 @@
 pub mod Recast
 pub mod Fits
-pub mod Cases

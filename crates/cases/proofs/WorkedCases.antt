@@ -31,7 +31,7 @@ use Rattle.recasting.specs.Recast.{
   leftTo,
   leftAfter,
 }
-use Rattle.recasting.specs.Cases.{
+use Rattle.cases.specs.Cases.{
   bytesOf,
   at,
   edition1,

@@ -1,0 +1,2 @@
+-- The worked cases, computed.
+pub mod WorkedCases

@@ -132,7 +132,9 @@ pub fn broken_tie(edition: Edition, record: &[u8]) -> Option<u64> {
             b'5' => one_of(&value[2..], b"0"),
             _ => true,
         };
-        if there(sign + 1) && !fits {
+        // Air and sea are bound always, dew point and wet bulb only where they were measured.
+        let bound = matches!(sign, 16 | 28) || one_of(text(record, sign), b"012");
+        if there(sign + 1) && bound && !fits {
             return Some(7);
         }
     }

@@ -286,10 +286,10 @@ fn numbers_broken<const LENGTH: usize>(record: &[u8; LENGTH], edition: Edition) 
         b'5' => 1 << 0,
         _ => 0,
     };
-    broken |= outside(last, air as u8)
-        | outside(last, dew_point as u8)
-        | outside(last, sea as u8)
-        | outside(last, wet_bulb as u8);
+    broken |= outside(last, air as u8) | outside(last, sea as u8);
+    // With the signs 5, 6 and 7, the highest that may stand there, dew point and wet bulb were computed and are free.
+    broken |= (record[33] < b'5') & outside(last, dew_point as u8);
+    broken |= (record[88] < b'5') & outside(last, wet_bulb as u8);
 
     let unit_blank = record[26] == b' ';
     broken |= unit_blank & (record[27] != b' ');

@@ -222,12 +222,14 @@ fn mend(chance: &mut Chance, limits: &Limits, edition: Edition, record: &mut [u8
             fill(chance, limits, edition, sign + 1, record);
         }
         let last = span(sign + 1).end - 1;
+        let column = span(sign).start;
         match record[0] {
+            // Computed, so that any tenth may stand there.
+            _ if record[column] >= b'5' => {}
             b'4' => record[last] = chance.pick(b"05"),
             b'5' => record[last] = b'0',
             _ => {}
         }
-        let column = span(sign).start;
         if text(record, sign + 1) == b"000" {
             record[column] = match record[column] {
                 b'1' => b'0',
@@ -338,10 +340,10 @@ fn strain(chance: &mut Chance, limits: &Limits, edition: Edition, tie: usize, re
             }
         }
         7 => {
-            record[0] = chance.pick(b"345");
+            record[0] = chance.pick(b"34455");
             let sign = chance.pick(&SIGNS);
-            if blank(text(record, sign)) || blank(text(record, sign + 1)) {
-                fill(chance, limits, edition, sign, record);
+            fill(chance, limits, edition, sign, record);
+            if blank(text(record, sign + 1)) {
                 fill(chance, limits, edition, sign + 1, record);
             }
             let last = span(sign + 1).end - 1;
@@ -520,9 +522,18 @@ pub fn call(chance: &mut Chance, limits: &Limits, family: Family) -> Call {
             }
             if chance.one_in(8) {
                 // Ties 7, 8 and 9.
-                match chance.below(3) {
+                match chance.below(4) {
                     0 => readings[0] = Reading::Code(chance.pick(&[3, 4, 5])),
-                    1 => readings[13] = Reading::Missing,
+                    1 => {
+                        // The same dew point or wet bulb, measured or computed.
+                        let sign = chance.pick(&[18, 50]);
+                        if let Reading::Amount(value, _) = readings[sign - 1] {
+                            readings[0] = Reading::Code(chance.pick(&[4, 5]));
+                            readings[sign - 1] = Reading::Amount(value, chance.pick(&KINDS));
+                            readings[sign] = readings[sign - 1];
+                        }
+                    }
+                    2 => readings[13] = Reading::Missing,
                     _ => readings[14] = Reading::Missing,
                 }
             }

@@ -38,6 +38,26 @@ fn checks_agree_on_every_family() {
 }
 
 #[test]
+fn computed_tenths_come_often() {
+    let limits = Limits::new();
+    let mut chance = Chance::new(77);
+    for family in [Family::Typical, Family::Ties] {
+        // Accepted records that tie 7 would refuse, had the dew point or the wet bulb been measured.
+        let free = (0..10_000)
+            .filter(|_| {
+                let mut record = trial::record(&mut chance, &limits, family);
+                let accepted = check(&record).number == 0;
+                let computed: Vec<usize> =
+                    [33, 88].into_iter().filter(|&sign| record.get(sign) >= Some(&b'5')).collect();
+                computed.into_iter().for_each(|sign| record[sign] = b'0');
+                accepted && check(&record) == Answer::refused(7, 7)
+            })
+            .count();
+        assert!(free > 400, "{family:?}: {free}");
+    }
+}
+
+#[test]
 fn checks_agree_on_every_byte_of_every_column() {
     let limits = Limits::new();
     let mut chance = Chance::new(7);

@@ -64,6 +64,39 @@ fn p7_halves() {
 }
 
 #[test]
+fn computed_tenths() {
+    // Dew point and wet bulb are bound by tie 7 where they were measured, air and sea always.
+    for (column, signs) in [(30, "01"), (34, "012567"), (50, "01"), (89, "012567")] {
+        for sign in signs.chars() {
+            for (first, value) in [("4", "123"), ("5", "123"), ("5", "125")] {
+                let expected = if sign >= '5' { (0, 0) } else { (7, 7) };
+                let text = format!("{sign}{value}");
+                assert_eq!(refusal(&record(4, &[(1, first), (column, &text)])), expected, "{first} {text} at {column}");
+                assert_eq!(refusal(&record(4, &[(column, &text)])), (0, 0));
+            }
+        }
+    }
+    // Ties 3 to 6 stay.
+    for (text, expected) in [("5000", (0, 0)), ("7000", (0, 0)), ("6000", (7, 4))] {
+        assert_eq!(refusal(&record(4, &[(1, "4"), (34, text)])), expected);
+    }
+    // A write goes by the kind of the reading.
+    for (kind, expected) in
+        [(Kind::Measured, (7, 7)), (Kind::Computed, (0, 0)), (Kind::IcedMeasured, (7, 7)), (Kind::IcedComputed, (0, 0))]
+    {
+        for sign in [18, 50] {
+            let mut readings = [Reading::Missing; ELEMENTS];
+            readings[0] = Reading::Code(4);
+            readings[64] = Reading::Code(4);
+            readings[sign - 1] = Reading::Amount(-123, kind);
+            readings[sign] = readings[sign - 1];
+            let answer = write(4, &readings, &mut [0; LONGEST]);
+            assert_eq!((answer.number, answer.place), expected, "{kind:?} in element {sign}");
+        }
+    }
+}
+
+#[test]
 fn p8_visibility() {
     for (text, expected) in [("50", (0, 0)), ("56", (0, 0)), ("51", (6, 11)), ("55", (6, 11))] {
         assert_eq!(refusal(&record(4, &[(22, text)])), expected);

@@ -15,11 +15,24 @@ fn recast_reports() {
     assert!(report(include_bytes!("../vectors/report_to_4.in")) == include_bytes!("../vectors/report_to_4.out"));
 }
 
+fn readings_of(input: &[u8]) -> Vec<u8> {
+    let mut output = Vec::new();
+    readings_report(&mut &input[..], &mut output).unwrap();
+    output
+}
+
 #[test]
 fn readings() {
-    let mut output = Vec::new();
-    readings_report(&mut &include_bytes!("../vectors/readings.in")[..], &mut output).unwrap();
-    assert!(output == include_bytes!("../vectors/readings.out"));
+    assert!(readings_of(include_bytes!("../vectors/readings.in")) == include_bytes!("../vectors/readings.out"));
+}
+
+#[test]
+fn more() {
+    let records = include_bytes!("../vectors/more.in");
+    assert!(report(&[b"1\n", &records[..]].concat()) == include_bytes!("../vectors/more_to_1.out"));
+    assert!(report(&[b"3\n", &records[..]].concat()) == include_bytes!("../vectors/more_to_3.out"));
+    assert!(report(&[b"4\n", &records[..]].concat()) == include_bytes!("../vectors/more_to_4.out"));
+    assert!(readings_of(records) == include_bytes!("../vectors/more_readings.out"));
 }
 
 #[test]

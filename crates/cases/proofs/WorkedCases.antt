@@ -1,8 +1,8 @@
--- The worked cases P1 to P12 of document 01, proved together over a single list: antt computes what the calls' own definitions answer.
+-- The worked cases P1 to P12 of document 01 and those of the requests, proved together over a single list: antt computes what the calls' own definitions answer.
 -- Assumes nothing.
 use mathlib.Core.Path.{_≡_, refl}
 use mathlib.Core.List.{List, [], _∷_, map}
-use lib.IntN.{negsuc}
+use lib.IntN.{pos, negsuc}
 use Rattle.text.specs.First.{firstFrom}
 use Rattle.text.specs.Bytes.{every, valueFrom, run}
 use Rattle.text.specs.Texts.{allows}
@@ -12,10 +12,16 @@ use Rattle.layout.specs.Page.{element, page, columns, startOf, textOf, legal}
 use Rattle.layout.specs.Records.{rowFrom, recordFrom}
 use Rattle.ties.specs.Ties.{placeTie, octantFits, octantTie, signTie, lastDigit, digitTie, windTie, tie}
 use Rattle.checking.specs.Check.{column, checkedIn, checked}
-use Rattle.reading.specs.declared.Kind.the-variants.{Measured}
+use Rattle.reading.specs.declared.Kind.{Kind}
+use Rattle.reading.specs.declared.Kind.the-variants.{Measured, Computed}
+use Rattle.reading.specs.declared.Reading.{Reading}
 use Rattle.reading.specs.declared.Reading.the-variants.{Code, Amount}
-use Rattle.reading.specs.Readings.{plain, temperature, south, west, itemOf}
+use Rattle.reading.specs.Readings.{plain, temperature, departure, south, west, placeOf, itemOf}
 use Rattle.reading.specs.Answers.{readAfter}
+use Rattle.spelling.specs.Same.{partsOf, same}
+use Rattle.spelling.specs.Spelled.{amountNumeral, placeNumeral, numeralFor, recordOf}
+use Rattle.writing.specs.Written as Written
+use Rattle.writing.proofs.Demand2TiesBroken.{missing, said, of-edition}
 use Rattle.hemispheres.specs.Digits.{suits, lowestDigit}
 use Rattle.meanings.specs.Meaning.{platformSense, senseOf}
 use Rattle.meanings.specs.Kept.{keeps, lostText}
@@ -37,18 +43,23 @@ use Rattle.cases.specs.Cases.{
   edition1,
   edition3,
   edition4,
+  halves,
+  wholes,
   position,
   Case,
   check,
   read,
   recast,
+  write,
   lent,
   Result,
   answer,
   accepted,
   refused,
   is,
+  unwritten,
   recastAs,
+  puts,
 }
 
 -- a case, and what it gives
@@ -59,6 +70,10 @@ pub record Worked : Type 0 where
 infix 3 _gives_
 abbrev pub _gives_ : Case → Result → Worked
 c gives r = record { asked = c; answered = r }
+
+-- the readings of a record in half degrees with a dew point of 12.3 degrees
+abbrev pub dew-point : Kind → List Reading
+dew-point kind = said 18 (Amount (pos 123) kind) (said 19 (Amount (pos 123) kind) (of-edition 4 4))
 
 abbrev pub worked : List Worked
 worked =
@@ -97,6 +112,26 @@ worked =
     (check (at 72 "ABC" edition4) gives accepted) ∷
     (check (at 72 "AB" edition4) gives refused 6 42) ∷
     (check (at 72 "A BC" edition4) gives refused 6 42) ∷
+    -- R-7: in half degrees a dew point of 123 is accepted with signs 5, 6, 7, and refusal 7 place 7 with 0, 2
+    (check (at 34 "5123" halves) gives accepted) ∷
+    (check (at 34 "6123" halves) gives accepted) ∷
+    (check (at 34 "7123" halves) gives accepted) ∷
+    (check (at 34 "0123" halves) gives refused 7 7) ∷
+    (check (at 34 "2123" halves) gives refused 7 7) ∷
+    -- and so is a wet bulb
+    (check (at 89 "5123" halves) gives accepted) ∷
+    (check (at 89 "6123" halves) gives accepted) ∷
+    (check (at 89 "7123" halves) gives accepted) ∷
+    (check (at 89 "0123" halves) gives refused 7 7) ∷
+    (check (at 89 "2123" halves) gives refused 7 7) ∷
+    -- in whole degrees the same; air and sea are bound as before
+    (check (at 34 "5123" wholes) gives accepted) ∷
+    (check (at 89 "5123" wholes) gives accepted) ∷
+    (check (at 30 "0123" halves) gives refused 7 7) ∷
+    (check (at 50 "0123" halves) gives refused 7 7) ∷
+    -- a write goes by the kind of the reading
+    (write 4 (dew-point Computed) gives puts (at 34 "5123" halves)) ∷
+    (write 4 (dew-point Measured) gives unwritten 7 7) ∷
     []
 
 abbrev pub cases : List Case
@@ -106,5 +141,5 @@ abbrev pub answers : List Result
 answers = map (λ w. w .answered) worked
 
 pub worked-cases : map answer cases ≡ answers
-unfolding answer lent at edition1 edition3 edition4 bytesOf spelled checked checkedIn column legal allows every valueFrom run textOf startOf columns element page tie firstFrom octantTie octantFits placeTie signTie digitTie lastDigit windTie readAfter itemOf plain temperature south west recastAfter recastTo recastIn lossesOf word elements hasLoss keeps lostText senseOf platformSense hemisphere lowestDigit suits leftAfter leftTo filledBy recastRecord recordFrom rowFrom recastText widened
+unfolding answer lent at edition1 edition3 edition4 bytesOf spelled checked checkedIn column legal allows every valueFrom run textOf startOf columns element page tie firstFrom octantTie octantFits placeTie signTie digitTie lastDigit windTie readAfter itemOf plain temperature south west recastAfter recastTo recastIn lossesOf word elements hasLoss keeps lostText senseOf platformSense hemisphere lowestDigit suits leftAfter leftTo filledBy recastRecord recordFrom rowFrom recastText widened Written.writtenAs Written.writtenIn Written.afterAs Written.filledBy Written.writes recordOf numeralFor amountNumeral placeNumeral same partsOf placeOf departure missing said
 worked-cases = refl

@@ -1,4 +1,4 @@
--- The worked cases of document 01: how the record of a case is made, what is asked of it, and what is answered by the calls' own definitions.
+-- The worked cases of document 01 and of the requests: how the record of a case is made, what is asked of it, and what is answered by the calls' own definitions.
 -- Assumes nothing.
 use Prim.Native.Nat.{ℕ, _-_}
 use Prim.Native.Char.{code}
@@ -13,6 +13,8 @@ use Rattle.reading.specs.declared.Found.{Found}
 use Rattle.reading.specs.declared.Reading.{Reading}
 use Rattle.reading.specs.declared.Reading.the-variants.{Missing}
 use Rattle.reading.specs.Answers.{readOf, foundNumber, foundPlace, foundReading}
+use Rattle.writing.specs.declared.Outcome as WriteOutcome
+use Rattle.writing.specs.Written as Written
 use Rattle.recasting.specs.declared.Outcome.{Outcome}
 use Rattle.recasting.specs.Recast.{blanks, recastOf, leftOf, outcomeNumber, outcomePlace, outcomeLosses}
 
@@ -35,17 +37,25 @@ edition3 = at 1 "3" (at 111 "3" (blanks 159))
 unfoldable pub edition4 : List ℕ
 edition4 = at 1 "3" (at 111 "4" (blanks 159))
 
+-- a record of edition 4 in half degrees, and one in whole degrees
+abbrev pub halves : List ℕ
+halves = at 1 "4" edition4
+
+abbrev pub wholes : List ℕ
+wholes = at 1 "5" edition4
+
 -- column 12, latitude and longitude, as the cases write them: `3 065 0795`
 abbrev pub position : String → String → String → List ℕ → List ℕ
 position digit latitude longitude xs = at 12 digit (at 13 latitude (at 16 longitude xs))
 
--- a record, and what is asked of it: to check it, to read the element of that number, to recast it to the edition of that number
+-- a record, and what is asked of it: to check it, to read the element of that number, to recast it to the edition of that number; or readings, to be written
 pub data Case : Type 0 where
   check : List ℕ → Case
   read : ℕ → List ℕ → Case
   recast : ℕ → List ℕ → Case
+  write : ℕ → List Reading → Case
 
--- the buffer that is lent to recast: 160 bytes, one more than any record has, each '.'
+-- the buffer that is lent to recast and write: 160 bytes, one more than any record has, each '.'
 unfoldable pub lent : List ℕ
 lent = spelled 1 46 160 0
 
@@ -69,11 +79,15 @@ ofFound f = result (foundNumber f) (foundPlace f) (foundReading f) [] []
 abbrev pub ofOutcome : Outcome → List ℕ → Result
 ofOutcome o after = result (outcomeNumber o) (outcomePlace o) Missing (lostList (hasLoss (outcomeLosses o))) after
 
+abbrev pub ofWritten : WriteOutcome.Outcome → List ℕ → Result
+ofWritten o after = result (Written.outcomeNumber o) (Written.outcomePlace o) Missing [] after
+
 -- what the calls' own definitions answer
 unfoldable pub answer : Case → Result
 answer (check xs) = ofAnswer (checked xs)
 answer (read e xs) = ofFound (readOf xs e)
 answer (recast n xs) = ofOutcome (recastOf xs n (length lent)) (leftOf xs n lent)
+answer (write n rs) = ofWritten (Written.written rs n (length lent)) (Written.after rs n lent)
 
 -- the answers that the cases name: accepted, a refusal with its place, a reading
 abbrev pub accepted : Result
@@ -85,6 +99,14 @@ refused n p = result n p Missing [] []
 abbrev pub is : Reading → Result
 is r = result 0 0 r [] []
 
+-- a refusal that leaves the lent buffer as it was
+abbrev pub unwritten : ℕ → ℕ → Result
+unwritten n p = result n p Missing [] lent
+
 -- and a loss of just these elements, with that record at the front of the lent buffer
 abbrev pub recastAs : List ℕ → List ℕ → Result
 recastAs ls xs = result 0 0 Missing ls (placed 0 xs lent)
+
+-- that record written to the front of the lent buffer
+abbrev pub puts : List ℕ → Result
+puts xs = recastAs [] xs

@@ -2,10 +2,10 @@
 use mathlib.Core.Path.{_≡_, refl, sym, ap, _∙_}
 use mathlib.Core.Bool.{Bool, true, false, not, cond, _&&_, _||_, Bool·beq, true≢false}
 use mathlib.Core.List.{List, [], _∷_}
-use mathlib.Core.Logic.{⊎-elim}
+use mathlib.Core.Logic.{_⊎_, ⊎-elim}
 use Prim.Native.Nat.{ℕ, zero, suc, _+_, _*_, _-_, _%_, _<_, _≤_}
 use native.Mathlib.Omega.{arith}
-use borrow.Author.Tests.{eqb-true, eqb-false, ne-eqb, leb-true, le-leb, not-true}
+use borrow.Author.Tests.{eqb-true, eqb-false, ne-eqb, leb-true, le-leb, lt-leb, not-true}
 use lib.Dec.{eqb, leb}
 use lib.ListN.{length, getD, take, drop, length-drop, replicate}
 use lib.Seq.{getD-take, getD-drop, length-take-le}
@@ -16,6 +16,7 @@ use Rattle.text.proofs.Among.{either-half}
 use Rattle.text.proofs.Below.{everyBelow, passes-below}
 use Rattle.text.proofs.Blanks.{only-blank}
 use Rattle.text.proofs.Order.{zeros}
+use Rattle.text.proofs.Ranges.{greatest}
 use Rattle.text.proofs.Parts.{one-column}
 use Rattle.numerals.specs.Spelling.{spelled}
 use Rattle.layout.specs.declared.Edition.{Edition}
@@ -26,8 +27,8 @@ use Rattle.layout.specs.Page.{page, element, columns, startOf, textOf, textsOf,
 use Rattle.layout.proofs.Elements.{in-each}
 use Rattle.layout.proofs.RecordLaws.{shortest}
 use Rattle.layout.proofs.Beyond.{text-none, last-above}
-use Rattle.ties.specs.Ties.{there, placeTie, octantFits, octantTie, negative, signTie, lastDigit, digitTie, windTie, ties, tie}
-use Rattle.columns.specs.Tables.{allowed, joined, cellOf, cellsFrom, cells, cellAt, bonds, bondsFrom, bondAt, inside, after, fits, Columns}
+use Rattle.ties.specs.Ties.{there, placeTie, octantFits, octantTie, negative, signTie, lastDigit, tenthsFit, measuredFit, digitTie, windTie, ties, tie}
+use Rattle.columns.specs.Tables.{allowed, cellOf, cellsFrom, cells, cellAt, bonds, bondsFrom, bondAt, inside, after, fits, Columns}
 use Rattle.columns.proofs.Bonds.{after-blank, same-blank, first-says}
 use Rattle.columns.proofs.Cells.{at-most-126}
 use Rattle.glance.specs.Tests.{lastHighest, plusZero, topDigit, halfDigit, lastFits, needs, far, octantNear}
@@ -71,6 +72,10 @@ sign-holds b v false l p q d z =
     let u : v ≡ replicate 3 48 = t ∙ ap (λ (n : ℕ). replicate n 48) l in
     minus-no b (getD v 0 0) (getD v 1 0) (getD v 2 0) z (ap (λ (w : List ℕ). getD w 0 0) u) (ap (λ (w : List ℕ). getD w 1 0) u) (ap (λ (w : List ℕ). getD w 2 0) u)))
 
+free : (x : Bool) → cond x true true ≡ true
+free true = refl
+free false = refl
+
 -- a last digit that column 1 takes
 digit-holds : (f b m n : ℕ) → n ≡ m * 10 + (b - 48) → lastFits (topDigit f) (halfDigit f) b ≡ true → lastDigit (number (f ∷ [])) n ≡ true
 unfolding lastDigit lastFits topDigit halfDigit valueFrom
@@ -82,10 +87,6 @@ digit-holds f b m n e h =
     rw (five, ne-eqb (number (f ∷ [])) 5 (λ g. eqb-false f 53 z (omega arith))) (free (eqb (number (f ∷ [])) 4))))
     (either-half (leb b (cond (eqb f 51) 57 48)) _ h))
   where
-    free : (x : Bool) → cond x true true ≡ true
-    free true = refl
-    free false = refl
-
     nought : b ≤ 48 → lastDigit (number (f ∷ [])) n ≡ true
     nought l = let none : n % 10 ≡ 0 = omega arith in rw none (decide (eqb (number (f ∷ [])) 4) (λ x. rw x) (λ x. rw x (free (eqb (number (f ∷ [])) 5))))
 
@@ -128,17 +129,33 @@ module _ (ed : Edition) (xs : List ℕ) (full : length xs ≡ lengthOf ed) (cols
         (says (s + 1) 3 (omega arith) (omega arith) (rw (b1, b2)) ∙ sym (next s (omega arith) b0))
         d (rw (t 0 (omega arith), t 1 (omega arith), t 2 (omega arith), i, j, k) (v .signed)))
 
-    digit-at : lastDigit (number (getD xs 0 0 ∷ [])) (number (take 3 (drop (s + 1) xs))) ≡ true
-    digit-at =
+    -- column 1 binds the last digit with a sign below 5, and with one from 5 on the tie does not
+    digit-at : leb 53 (getD xs s 0) ≡ false → tenthsFit (getD xs 0 0 ∷ []) (take 3 (drop (s + 1) xs)) ≡ true
+    digit-at low =
         digit-holds (getD xs 0 0) (getD xs (s + 3) 0) (number (take 2 (drop (s + 1) xs))) _
-        (number-more xs (s + 1) 2 (omega (arith, full)) ∙ ap (λ (i : ℕ). number (take 2 (drop (s + 1) xs)) * 10 + (getD xs i 0 - 48)) (omega arith)) (v .last)
+        (number-more xs (s + 1) 2 (omega (arith, full)) ∙ ap (λ (i : ℕ). number (take 2 (drop (s + 1) xs)) * 10 + (getD xs i 0 - 48)) (omega arith)) (rw low at (v .last))
 
-  -- the digits of a number
-  digits-of : (e a b : ℕ) → mayBeBlank e ≡ true → textsOf ed e ≡ Within a b → 1 ≤ e → e ≤ 85 → (blank (textOf e xs) || digits (textOf e xs)) ≡ true
-  unfolding legal allows
-  digits-of e a b m t k l =
-      let h : (blank (textOf e xs) || (digits (textOf e xs) && between a b (number (textOf e xs)))) ≡ true = rw (m, t) at (legal-at e k (omega (arith, last-above ed))) in
-      ⊎-elim (λ x. rw x) (λ x. second-holds (blank (textOf e xs)) _ (and-first _ _ x)) (either-half (blank (textOf e xs)) _ h)
+    measured-at : measuredFit (getD xs 0 0 ∷ []) (take 1 (drop s xs)) (take 3 (drop (s + 1) xs)) ≡ true
+    unfolding valueFrom
+    measured-at =
+        let b = getD xs s 0 in
+        let one : take 1 (drop s xs) ≡ b ∷ [] = one-column xs s (omega (arith, full)) in
+        decide (leb 53 b) (λ x. rw (one, lt-leb (number (b ∷ [])) 2 (omega (arith, leb-true 53 b x)))) (λ x. rw (digit-at x) (free (leb (number (take 1 (drop s xs))) 2)))
+
+  -- a number that may be blank: its digits, and a sign of one column that is at most 1
+  module _ (e a b : ℕ) (m : mayBeBlank e ≡ true) (t : textsOf ed e ≡ Within a b) (k : 1 ≤ e) (l : e ≤ 85) where
+    within : (blank (textOf e xs) ≡ true) ⊎ ((digits (textOf e xs) && between a b (number (textOf e xs))) ≡ true)
+    unfolding legal allows
+    within = either-half (blank (textOf e xs)) _ (rw (m, t) at (legal-at e k (omega (arith, last-above ed))))
+
+    digits-of : (blank (textOf e xs) || digits (textOf e xs)) ≡ true
+    digits-of = ⊎-elim (λ x. rw x) (λ x. second-holds (blank (textOf e xs)) _ (and-first _ _ x)) within
+
+    low-sign : b ≤ 1 → (s : ℕ) → textOf e xs ≡ s ∷ [] → leb 53 s ≡ false
+    unfolding valueFrom every
+    low-sign h s q =
+        let n : number (textOf e xs) ≡ s - 48 = ap number q ∙ omega arith in
+        lt-leb 53 s (⊎-elim (λ x. omega (arith, only-blank s (and-first _ _ (rw q at x)))) (λ x. omega (arith, greatest a b _ (and-second (digits (textOf e xs)) _ x))) within)
 
   module _ (temps : Temperatures xs) where
     tie-1 : placeTie (textOf 6 xs) (textOf 7 xs) (textOf 8 xs) ≡ true
@@ -168,8 +185,9 @@ module _ (ed : Edition) (xs : List ℕ) (full : length xs ≡ lengthOf ed) (cols
     unfolding textOf startOf columns element page tie digitTie
     tie-7 =
         let l = shortest ed in
-        let one : take 1 (drop 0 xs) ≡ getD xs 0 0 ∷ [] = one-column xs 0 (omega (arith, full)) in
-        rw (one, digit-at 29 (omega arith) (temps .0 .0), digit-at 33 (omega arith) (temps .0 .1), digit-at 49 (omega arith) (temps .1 .0), digit-at 88 (omega arith) (temps .1 .1))
+        let air = low-sign 16 0 1 refl (in-each ed 16 (Within 0 1) refl refl refl) (omega arith) (omega arith) (omega arith) _ (one-column xs 29 (omega (arith, full))) in
+        let sea = low-sign 28 0 1 refl (in-each ed 28 (Within 0 1) refl refl refl) (omega arith) (omega arith) (omega arith) _ (one-column xs 49 (omega (arith, full))) in
+        rw (one-column xs 0 (omega (arith, full)), digit-at 29 (omega arith) (temps .0 .0) air, measured-at 33 (omega arith) (temps .0 .1), digit-at 49 (omega arith) (temps .1 .0) sea, measured-at 88 (omega arith) (temps .1 .1))
 
   tie-8 : windTie (textOf 15 xs) (textOf 14 xs) ≡ true
   unfolding textOf startOf columns element page bondAt bonds bondsFrom inside after

@@ -1,9 +1,9 @@
 -- What the glance says of a record where it says yes: every element is legal and every tie holds. The rest is the code's own way to it. Assumes nothing.
 use Prim.Native.Nat.{ℕ, _+_, _≤_}
 use mathlib.Core.Path.{_≡_}
-use mathlib.Core.List.{List, [], _∷_, _++_}
-use mathlib.Core.Bool.{true, false}
-use lib.Dec.{eqb}
+use mathlib.Core.List.{List, [], _∷_}
+use mathlib.Core.Bool.{true, false, _||_}
+use lib.Dec.{eqb, leb}
 use lib.ListN.{length, getD, take, drop}
 use Rattle.text.specs.Bytes.{word}
 use Rattle.layout.specs.declared.Edition.{Edition}
@@ -48,10 +48,10 @@ courses = 87 ∷ 88 ∷ 91 ∷ 92 ∷ []
 abbrev pub Codes : List ℕ → Type 0
 Codes xs = (eqb (getD xs 0 0) 32 ≡ false) × (neither 50 51 (getD xs 82 0) ≡ true)
 
--- a sign and its temperature, from column s on: no minus zero, and a last digit that column 1 takes
+-- a sign and its temperature, from column s on: no minus zero, and a sign of 5 or above or a last digit that column 1 takes
 pub record Temperature (xs : List ℕ) (s top half : ℕ) : Type 0 where
   pub signed : plusZero (lastHighest xs s) ≡ true
-  pub last : lastFits top half (getD xs (s + 3) 0) ≡ true
+  pub last : (leb 53 (getD xs s 0) || lastFits top half (getD xs (s + 3) 0)) ≡ true
 
 abbrev pub Degrees : List ℕ → ℕ → Type 0
 Degrees xs s = Temperature xs s (topDigit (getD xs 0 0)) (halfDigit (getD xs 0 0))

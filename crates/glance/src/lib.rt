@@ -182,13 +182,14 @@ fn half_digit(format: u8) -> u8
     if format == b'5' { b'0' } else { b'5' }
 }
 
-// A sign and its temperature, from column s on: is it minus zero, or has it a last digit that column 1
-// does not take?
+// A sign and its temperature, from column s on: is it minus zero, or has it, with a sign below 5, a last
+// digit that column 1 does not take?
 fn temperature(line: &[u8], s: usize, top: u8, half: u8) -> u8
     requires { ⌜ s + 4 ≤ length (now line) ⌝ }
     ensures { λ z. ⌜ (z ≡ 0 → Temperature (now (line .entry)) s top half) ⌝ }
 {
-    minus_zero(backwards(line, s)) | (past(line[s + 3], top) & other(line[s + 3], half))
+    minus_zero(backwards(line, s))
+        | (past(b'5', line[s]) & (past(line[s + 3], top) & other(line[s + 3], half)))
 }
 
 // Air, dew point, sea, wet bulb.

@@ -1,6 +1,6 @@
 -- A tie looks at the texts of its own elements and at nothing else: two records with the same texts there keep it or break it together. Assumes nothing.
 use mathlib.Core.Path.{_≡_, refl}
-use mathlib.Core.Bool.{Bool, true, _&&_}
+use mathlib.Core.Bool.{Bool, true}
 use mathlib.Core.List.{List, [], _∷_}
 use Prim.Native.Nat.{ℕ, zero, suc}
 use lib.ListN.{getD}
@@ -20,7 +20,7 @@ looks =
     (18 ∷ 19 ∷ []) ∷
     (28 ∷ 29 ∷ []) ∷
     (50 ∷ 51 ∷ []) ∷
-    (1 ∷ 17 ∷ 19 ∷ 29 ∷ 51 ∷ []) ∷
+    (1 ∷ 17 ∷ 18 ∷ 19 ∷ 29 ∷ 50 ∷ 51 ∷ []) ∷
     (15 ∷ 14 ∷ []) ∷
     (93 ∷ 14 ∷ []) ∷
     []
@@ -41,9 +41,9 @@ module _ (ed : Edition) (xs ys : List ℕ) where
   three : (f : List ℕ → List ℕ → List ℕ → Bool) {a b c : ℕ} → Alike (a ∷ b ∷ c ∷ []) → f (textOf a xs) (textOf b xs) (textOf c xs) ≡ f (textOf a ys) (textOf b ys) (textOf c ys)
   three f (p and (q and (r and none))) = rw (p, q, r)
 
-  digits : {a b c d e : ℕ} → Alike (a ∷ b ∷ c ∷ d ∷ e ∷ []) →
-      digitTie (textOf a xs) (textOf b xs) (textOf c xs) (textOf d xs) (textOf e xs) ≡ digitTie (textOf a ys) (textOf b ys) (textOf c ys) (textOf d ys) (textOf e ys)
-  digits (p and (q and (r and (s and (t and none))))) = rw (p, q, r, s, t)
+  digits : {a b c d e f g : ℕ} → Alike (a ∷ b ∷ c ∷ d ∷ e ∷ f ∷ g ∷ []) →
+      digitTie (textOf a xs) (textOf b xs) (textOf c xs) (textOf d xs) (textOf e xs) (textOf f xs) (textOf g xs) ≡ digitTie (textOf a ys) (textOf b ys) (textOf c ys) (textOf d ys) (textOf e ys) (textOf f ys) (textOf g ys)
+  digits (p and (q and (r and (s and (t and (u and (v and none))))))) = rw (p, q, r, s, t, u, v)
 
   -- two lists of tests, each of which goes by the texts of the elements beside it
   infixr 4 _then_

@@ -34,15 +34,20 @@ negative sign = eqb sign 1 || eqb sign 6
 unfoldable pub signTie : List ℕ → List ℕ → Bool
 signTie sign value = Bool·beq (there sign) (there value) && not (negative (number sign) && eqb (number value) 0)
 
--- 7. column 1 = 4 wants last temperature digit 0 or 5, 5 wants 0, for all four; a temperature that is not there says 0
+-- 7. column 1 = 4 wants last temperature digit 0 or 5, 5 wants 0. It binds air and sea temperature, and dew point and wet bulb only with measured signs 0, 1, 2;
+-- with 5, 6, 7 any tenth is right. A temperature that is not there says 0
 unfoldable pub lastDigit : ℕ → ℕ → Bool
 lastDigit format value = cond (eqb format 4) (eqb (value % 10) 0 || eqb (value % 10) 5) (cond (eqb format 5) (eqb (value % 10) 0) true)
 
 abbrev pub tenthsFit : List ℕ → List ℕ → Bool
 tenthsFit format value = lastDigit (number format) (number value)
 
-unfoldable pub digitTie : List ℕ → List ℕ → List ℕ → List ℕ → List ℕ → Bool
-digitTie format air dewPoint sea wetBulb = tenthsFit format air && (tenthsFit format dewPoint && (tenthsFit format sea && tenthsFit format wetBulb))
+abbrev pub measuredFit : List ℕ → List ℕ → List ℕ → Bool
+measuredFit format sign value = cond (leb (number sign) 2) (tenthsFit format value) true
+
+unfoldable pub digitTie : List ℕ → List ℕ → List ℕ → List ℕ → List ℕ → List ℕ → List ℕ → Bool
+digitTie format air dewSign dewPoint sea wetSign wetBulb =
+    tenthsFit format air && (measuredFit format dewSign dewPoint && (tenthsFit format sea && measuredFit format wetSign wetBulb))
 
 -- 8, 9. ff needs iw; RWS needs iw
 unfoldable pub windTie : List ℕ → List ℕ → Bool
@@ -58,7 +63,7 @@ ties ed xs =
     signTie (textOf 18 xs) (textOf 19 xs) ∷
     signTie (textOf 28 xs) (textOf 29 xs) ∷
     signTie (textOf 50 xs) (textOf 51 xs) ∷
-    digitTie (textOf 1 xs) (textOf 17 xs) (textOf 19 xs) (textOf 29 xs) (textOf 51 xs) ∷
+    digitTie (textOf 1 xs) (textOf 17 xs) (textOf 18 xs) (textOf 19 xs) (textOf 29 xs) (textOf 50 xs) (textOf 51 xs) ∷
     windTie (textOf 15 xs) (textOf 14 xs) ∷
     windTie (textOf 93 xs) (textOf 14 xs) ∷
     []

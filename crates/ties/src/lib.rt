@@ -11,7 +11,7 @@ ghost use Prim.Native.Nat.{_≤_};
 ghost use lib.Dec.{eqb};
 ghost use lib.ListN.{length};
 ghost use Rattle.text.specs.First.{firstOf};
-ghost use Rattle.ties.specs.Ties.{there, placeTie, octantFits, octantTie, negative, signTie, lastDigit, tenthsFit, windTie, tie};
+ghost use Rattle.ties.specs.Ties.{there, placeTie, octantFits, octantTie, negative, signTie, lastDigit, tenthsFit, measuredFit, windTie, tie};
 
 // Is the element filled?
 fn is_there(text: &[u8]) -> bool
@@ -103,6 +103,18 @@ fn tenths_fit(format: &[u8], value: &[u8]) -> bool
     last_digit(text::number_of(format), text::number_of(value))
 }
 
+// The same of a dew point or a wet bulb: one that was computed may have any.
+fn measured_fit(format: &[u8], sign: &[u8], value: &[u8]) -> bool
+    requires { ⌜ (length (now format) ≤ 7) × ((length (now sign) ≤ 7) × (length (now value) ≤ 7)) ⌝ }
+    ensures { λ r. ⌜ r ≡ measuredFit (now (format .entry)) (now (sign .entry)) (now (value .entry)) ⌝ }
+{
+    if text::number_of(sign) <= 2 {
+        tenths_fit(format, value)
+    } else {
+        true
+    }
+}
+
 // Do both hold?
 fn both(first: bool, second: bool) -> bool
     ensures { λ r. ⌜ r ≡ (first && second) ⌝ }
@@ -116,9 +128,17 @@ fn digit_tie(line: &[u8]) -> bool
 {
     let format = page::columns(line, 0, 1);
     let air = tenths_fit(format, page::columns(line, 30, 3));
-    let dew_point = tenths_fit(format, page::columns(line, 34, 3));
+    let dew_point = measured_fit(
+        format,
+        page::columns(line, 33, 1),
+        page::columns(line, 34, 3),
+    );
     let sea = tenths_fit(format, page::columns(line, 50, 3));
-    let wet_bulb = tenths_fit(format, page::columns(line, 89, 3));
+    let wet_bulb = measured_fit(
+        format,
+        page::columns(line, 88, 1),
+        page::columns(line, 89, 3),
+    );
     both(air, both(dew_point, both(sea, wet_bulb)))
 }
 

@@ -14,14 +14,20 @@ backwards-requires c κs = search needs
 minus-zero-requires : tie.Need-minus-zero-requires
 minus-zero-requires c κs = search needs
 
-add-past : tie.Need-add-past
-add-past c = search needs
-
 shared-slice-read-past : tie.Need-shared-slice-read-past
 shared-slice-read-past c = search needs
 
 past-requires : tie.Need-past-requires
 past-requires c κs = search needs
+
+add-past : tie.Need-add-past
+add-past c = search needs
+
+shared-slice-read-past-2 : tie.Need-shared-slice-read-past-2
+shared-slice-read-past-2 c = search needs
+
+past-requires-2 : tie.Need-past-requires-2
+past-requires-2 c κs = search needs
 
 add-other : tie.Need-add-other
 add-other c = search needs
@@ -35,11 +41,12 @@ other-requires c κs = search needs
 returns : tie.Need-returns
 unfolding lastFits
 returns c = λ z.
-    let low = c .before .before .before .before in
-    let last = bitAnd (c .before .before .past .result) (c .other .result) in
+    let high = c .before .before in
+    let low = high .before .before .before .before in
+    let last = bitAnd (high .before .before .past .result) (bitAnd (high .past2 .result) (c .other .result)) in
     record {
       signed = ap plusZero (sym (low .before .backwards .ensures)) ∙ passed _ (low .minus-zero .ensures) (or-left (low .minus-zero .result) last z);
-      last = passed _ (either-of _ _ (c .before .before .past .ensures) (c .other .ensures)) (or-right (low .minus-zero .result) last z);
+      last = passed _ (either-of _ _ (high .before .before .past .ensures) (either-of _ _ (high .past2 .ensures) (c .other .ensures))) (or-right (low .minus-zero .result) last z);
     }
 
 pub temperature-spec : {M : Type 1} → statement M
@@ -48,9 +55,11 @@ temperature-spec =
     (tie.spec
     backwards-requires
     minus-zero-requires
-    add-past
     shared-slice-read-past
     past-requires
+    add-past
+    shared-slice-read-past-2
+    past-requires-2
     add-other
     shared-slice-read-other
     other-requires

@@ -10,7 +10,7 @@ use Rattle.numerals.specs.Spelling.{spelled}
 use Rattle.losses.specs.Losses.{elements, word, lossesOf, hasLoss}
 use Rattle.layout.specs.Page.{element, page, columns, startOf, textOf, legal}
 use Rattle.layout.specs.Records.{rowFrom, recordFrom}
-use Rattle.ties.specs.Ties.{placeTie, octantFits, octantTie, signTie, lastDigit, digitTie, windTie, tie}
+use Rattle.ties.specs.Ties.{placeTie, octantFits, octantTie, signTie, lastDigit, digitTie, windTie, tie, firstBroken}
 use Rattle.checking.specs.Check.{column, checkedIn, checked}
 use Rattle.reading.specs.declared.Kind.{Kind}
 use Rattle.reading.specs.declared.Kind.the-variants.{Measured, Computed}
@@ -141,5 +141,5 @@ abbrev pub answers : List Result
 answers = map (λ w. w .answered) worked
 
 pub worked-cases : map answer cases ≡ answers
-unfolding answer lent at edition1 edition3 edition4 bytesOf spelled checked checkedIn column legal allows every valueFrom run textOf startOf columns element page tie firstFrom octantTie octantFits placeTie signTie digitTie lastDigit windTie readAfter itemOf plain temperature south west recastAfter recastTo recastIn lossesOf word elements hasLoss keeps lostText senseOf platformSense hemisphere lowestDigit suits leftAfter leftTo filledBy recastRecord recordFrom rowFrom recastText widened Written.writtenAs Written.writtenIn Written.afterAs Written.filledBy Written.writes recordOf numeralFor amountNumeral placeNumeral same partsOf placeOf departure missing said
+unfolding answer lent at edition1 edition3 edition4 bytesOf spelled checked checkedIn column legal allows every valueFrom run textOf startOf columns element page tie firstBroken firstFrom octantTie octantFits placeTie signTie digitTie lastDigit windTie readAfter itemOf plain temperature south west recastAfter recastTo recastIn lossesOf word elements hasLoss keeps lostText senseOf platformSense hemisphere lowestDigit suits leftAfter leftTo filledBy recastRecord recordFrom rowFrom recastText widened Written.writtenAs Written.writtenIn Written.afterAs Written.filledBy Written.writes recordOf numeralFor amountNumeral placeNumeral same partsOf placeOf departure missing said
 worked-cases = refl

@@ -15,7 +15,7 @@ use Rattle.layout.specs.declared.Refusal.{Refusal}
 use Rattle.layout.specs.declared.Refusal.the-variants.{Length, Unprintable, Format, EditionLength, Illegal, Broken}
 use Rattle.layout.specs.Editions.{editionOf, lengthOf, lastOf}
 use Rattle.layout.specs.Page.{legal}
-use Rattle.ties.specs.Ties.{tie}
+use Rattle.ties.specs.Ties.{firstBroken}
 use Rattle.checking.specs.declared.Answer.{Answer}
 use Rattle.checking.specs.declared.Answer.the-variants.{Accepted, Refused}
 use Rattle.checking.specs.Check.{knownLength, knownFormat, printableAt, named, column, refusedAt, checkedIn, checked}
@@ -38,7 +38,7 @@ module _ (ed : Edition) (xs : List ℕ) where
     unfolding checkedIn
     illegal h = rw (eq-eqb _ _ f, ← i) (found Illegal e _ h)
 
-    module _ (z : e ≡ 0) (k : ℕ) (j : k ≡ firstOf 9 (tie ed xs)) where
+    module _ (z : e ≡ 0) (k : ℕ) (j : k ≡ firstBroken ed xs) where
       pub broken : (k ≡ 0 → ⊥) → Refused (Broken k) ≡ checkedIn (Known ed) xs
       unfolding checkedIn
       broken h = rw (eq-eqb _ _ f, ← i, ← j) (found Broken k _ h ∙ nowhere Illegal e _ z)

@@ -7,12 +7,12 @@ use Prim.Native.Nat.{ℕ, _+_, _<_, _≤_}
 use native.Mathlib.Omega.{arith}
 use borrow.Author.Tests.{eq-eqb}
 use lib.ListN.{length}
-use Rattle.text.proofs.First.{none-of-all}
+use Rattle.text.proofs.First.{at-none, none-of-all}
 use Rattle.layout.specs.declared.Edition.{Edition}
 use Rattle.layout.specs.declared.Edition.the-variants.{One, Three, Four}
 use Rattle.layout.specs.Editions.{lengthOf, lastOf}
 use Rattle.layout.specs.Page.{legal}
-use Rattle.ties.specs.Ties.{tie}
+use Rattle.ties.proofs.TieLaws.{is-lowest}
 use Rattle.checking.specs.declared.Answer.the-variants.{Accepted}
 use Rattle.checking.specs.Check.{knownLength, printableAt, checkedIn, checked}
 use Rattle.checking.specs.Acceptable.{Acceptable, Fits}
@@ -38,7 +38,7 @@ all-kept ed xs a =
       a .names,
       eq-eqb _ _ (a .full),
       none-of-all (legal ed xs) (lastOf ed) (up-to _ (legal ed xs) (a .lawful)),
-      none-of-all (tie ed xs) 9 (up-to _ (tie ed xs) (a .tied)),
+      is-lowest ed xs 0 (at-none (a .tied)),
     )
 
 pub accepted-exactly : (xs : List ℕ) (ed : Edition) → (checked xs ≡ Accepted ed) ↔ Acceptable ed xs

@@ -19,7 +19,7 @@ use Rattle.checking.proofs.Placed.{column-at}
 use Rattle.checking.proofs.PrintLaws.{record-prints, format-digit, edition-digit}
 
 pub legal-record : (ed : Edition) (xs : List ℕ) → length xs ≡ lengthOf ed → ((e : ℕ) → 1 ≤ e → e ≤ lastOf ed → legal ed xs e ≡ true) →
-    ((k : ℕ) → 1 ≤ k → k ≤ 9 → tie ed xs k ≡ true) → Acceptable ed xs
+    ((k : ℕ) → tie ed xs k ≡ true) → Acceptable ed xs
 legal-record ed xs long lawful tied =
     let short = shortest ed in
     let prints = record-prints ed xs long lawful in

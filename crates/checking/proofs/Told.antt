@@ -4,14 +4,14 @@ use mathlib.Core.Path.{_≡_, refl, sym, ap, _∙_}
 use mathlib.Core.Logic.{⊎-elim}
 use mathlib.Core.Bool.{Bool, true, false, cond, true≢false}
 use mathlib.Core.List.{List}
-use Prim.Native.Nat.{ℕ, zero, suc, _+_, _<_, _≤_}
+use Prim.Native.Nat.{ℕ, suc, _<_, _≤_}
 use native.Mathlib.Nat.{le-of-suc-le-suc, eq-or-lt-of-le}
 use native.Mathlib.Omega.{arith}
 use borrow.Author.Tests.{eq-eqb, ne-eqb, eqb-true, leb-true, leb-false}
 use lib.Dec.{eqb, leb}
 use lib.ListN.{length, List·getD-eq-default}
 use Rattle.text.specs.Bytes.{printable}
-use Rattle.text.proofs.First.{Looked, looked, nowhere, lowest}
+use Rattle.text.proofs.First.{Found, at-none, at-lowest, found}
 use Rattle.layout.specs.declared.Edition.{Edition}
 use Rattle.layout.specs.declared.Named.{Named}
 use Rattle.layout.specs.declared.Named.the-variants.{Known, Unknown}
@@ -27,7 +27,7 @@ use Rattle.checking.specs.Check.{column, knownLength, printableAt, known
 use Rattle.checking.specs.Rules.{only, isKnown, ofEdition, rules, rule, FirstFailure}
 use Rattle.checking.specs.Acceptable.{Fits}
 use Rattle.layout.proofs.Beyond.{legal-none, legal-zero}
-use Rattle.ties.proofs.TieLaws.{tie-none, tie-zero}
+use Rattle.ties.proofs.TieLaws.{lowest-broken}
 use Rattle.checking.proofs.Placed.{column-none, blank-zero}
 
 -- what an answer is known to say of the record: it fits, and where it accepts every rule holds at every place
@@ -101,28 +101,15 @@ module _ (xs : List ℕ) where
     lower = λ q h. f q ∙ only-below (placeOf r) q false h;
   }
 
-  -- a rule of the places 1 to k: it fails at the lowest that was found, or what follows is told
-  module _ (n k : ℕ) (r : ℕ → Refusal) (test : ℕ → Bool) (a : Answer) (number : (p : ℕ) → numberOf (r p) ≡ n) (place : (p : ℕ) → placeOf (r p) ≡ p)
-      (is : (q : ℕ) → rule xs n q ≡ test q) (before : test 0 ≡ true) (after : (q : ℕ) → k < q → test q ≡ true) (past : Past n)
-      (next : ((q : ℕ) → test q ≡ true) → Past (suc n) → Told xs a) where
-    from-one : (l : ℕ) → ((q : ℕ) → 1 ≤ q → q < l → test q ≡ true) → (q : ℕ) → q < l → test q ≡ true
-    from-one l f zero h = before
-    from-one l f (suc q) h = f (suc q) (omega arith) h
-
-    everywhere : ((q : ℕ) → 1 ≤ q → q < 1 + k → test q ≡ true) → (q : ℕ) → test q ≡ true
-    everywhere f q = reach (order q (1 + k))
-      where
-        reach : Order q (1 + k) → test q ≡ true
-        reach (less h) = from-one (1 + k) f q h
-        reach (same e) = after q (omega arith)
-        reach (more h) = after q (omega arith)
-
-    by-place : (p : ℕ) → Looked test 1 k p → Told xs (refusedAt r p a)
+  -- a rule of several places: it fails at the lowest that was found, or what follows is told
+  module _ (n : ℕ) (r : ℕ → Refusal) (test : ℕ → Bool) (a : Answer) (number : (p : ℕ) → numberOf (r p) ≡ n) (place : (p : ℕ) → placeOf (r p) ≡ p)
+      (is : (q : ℕ) → rule xs n q ≡ test q) (past : Past n) (next : ((q : ℕ) → test q ≡ true) → Past (suc n) → Told xs a) where
+    by-place : (p : ℕ) → Found test p → Told xs (refusedAt r p a)
     unfolding Told Fits
-    by-place p (nowhere f) = next (everywhere f) (one-more n past (λ q. is q ∙ everywhere f q))
-    by-place p (lowest q low high x f) =
+    by-place p (at-none f) = next f (one-more n past (λ q. is q ∙ f q))
+    by-place p (at-lowest q low x f) =
         rw (ne-eqb q 0 (λ e. omega arith), number q, place q)
-        (record { fails = is q ∙ x; earlier = past; lower = λ j h. is j ∙ from-one q f j h })
+        (record { fails = is q ∙ x; earlier = past; lower = λ j h. is j ∙ f j h })
 
   -- what is known where rules 1 to 4 hold and column 111 names the edition ed
   module _ (ed : Edition) (e : named xs ≡ Known ed) (prints : (c : ℕ) → printableAt xs c ≡ true) (format : knownFormat (column 1 xs) ≡ true) (past : Past 5) where
@@ -131,9 +118,9 @@ module _ (xs : List ℕ) where
     told-known =
         by-test (eqb (length xs) (lengthOf ed)) EditionLength _ (λ q. ap (λ (m : Named). only 0 (ofEdition m (λ ed. eqb (length xs) (lengthOf ed))) q) e) past
         (λ full past6. let f : length xs ≡ lengthOf ed = eqb-true _ _ full in
-        by-place 6 (lastOf ed) Illegal (legal ed xs) _ (λ p. refl) (λ p. refl) (λ q. ap (λ (m : Named). ofEdition m (λ ed. legal ed xs q)) e) (legal-zero ed xs) (legal-none ed xs f) past6
+        by-place 6 Illegal (legal ed xs) _ (λ p. refl) (λ p. refl) (λ q. ap (λ (m : Named). ofEdition m (λ ed. legal ed xs q)) e) past6
         (λ lawful past7.
-        by-place 7 9 Broken (tie ed xs) _ (λ p. refl) (λ p. refl) (λ q. ap (λ (m : Named). ofEdition m (λ ed. tie ed xs q)) e) (tie-zero ed xs) (tie-none ed xs) past7
+        by-place 7 Broken (tie ed xs) _ (λ p. refl) (λ p. refl) (λ q. ap (λ (m : Named). ofEdition m (λ ed. tie ed xs q)) e) past7
         (λ tied past8. (
           record {
             names = e;
@@ -141,12 +128,12 @@ module _ (xs : List ℕ) where
             prints = λ c _ _. prints c;
             format = format;
             lawful = λ k _ _. lawful k;
-            tied = λ k _ _. tied k;
+            tied = tied;
           },
           past-all past8,
         ))
-        _ (looked (tie ed xs) 1 9))
-        _ (looked (legal ed xs) 1 (lastOf ed)))
+        _ (lowest-broken ed xs))
+        _ (found (legal ed xs) (legal-zero ed xs) (lastOf ed) (legal-none ed xs f)))
 
   -- rule 4, and the rest where it holds
   told-in : (m : Named) → named xs ≡ m → ((c : ℕ) → printableAt xs c ≡ true) → knownFormat (column 1 xs) ≡ true → Past 4 → Told xs (checkedIn m xs)
@@ -162,9 +149,9 @@ module _ (xs : List ℕ) where
   told =
       by-test (knownLength (length xs)) Length _ (λ q. refl) past-none
       (λ known past2.
-      by-place 2 (length xs) Unprintable (printableAt xs) _ (λ p. refl) (λ p. refl) (λ q. refl) (blank-zero xs) (λ q h. ap printable (column-none xs q h)) past2
+      by-place 2 Unprintable (printableAt xs) _ (λ p. refl) (λ p. refl) (λ q. refl) past2
       (λ prints past3. by-test (knownFormat (column 1 xs)) Format _ (λ q. refl) past3 (λ format past4. told-in (named xs) refl prints format past4))
-      _ (looked (printableAt xs) 1 (length xs)))
+      _ (found (printableAt xs) (blank-zero xs) (length xs) (λ q h. ap printable (column-none xs q h))))
 
   -- a rule that fails first leaves no room for another
   pub same-failure : {n p m q : ℕ} → FirstFailure xs n p → FirstFailure xs m q → (n ≡ m) × (p ≡ q)

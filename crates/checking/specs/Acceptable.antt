@@ -28,7 +28,7 @@ pub record Acceptable (ed : Edition) (xs : List ℕ) : Type 0 where
   -- every element is blank, where it may be, or legal
   pub lawful : (e : ℕ) → 1 ≤ e → e ≤ lastOf ed → legal ed xs e ≡ true
   -- every tie holds
-  pub tied : (k : ℕ) → 1 ≤ k → k ≤ 9 → tie ed xs k ≡ true
+  pub tied : (k : ℕ) → tie ed xs k ≡ true
 
 -- an answer fits: the record is one of that edition, or that refusal's rule is the first to fail, at that place
 unfoldable pub Fits : List ℕ → Answer → Type 0

@@ -14,7 +14,7 @@ use Rattle.layout.specs.declared.Refusal.the-variants.{Length, Unprintable, For
 use Rattle.layout.specs.Editions.{editionOf, lengthOf, lastOf}
 use Rattle.layout.specs.Page.{legal, textOf}
 use Rattle.layout.specs.Refusals.{numberOf, placeOf}
-use Rattle.ties.specs.Ties.{tie}
+use Rattle.ties.specs.Ties.{firstBroken}
 use Rattle.checking.specs.declared.Answer.{Answer}
 use Rattle.checking.specs.declared.Answer.the-variants.{Accepted, Refused}
 
@@ -51,7 +51,7 @@ checkedIn Unknown xs = Refused Version
 checkedIn (Known ed) xs =
     unless (eqb (length xs) (lengthOf ed)) EditionLength
     (refusedAt Illegal (firstOf (lastOf ed) (legal ed xs))
-    (refusedAt Broken (firstOf 9 (tie ed xs))
+    (refusedAt Broken (firstBroken ed xs)
     (Accepted ed)))
 
 unfoldable pub checked : List ℕ → Answer

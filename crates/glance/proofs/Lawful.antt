@@ -11,7 +11,7 @@ use lib.Dec.{eqb}
 use lib.ListN.{length, getD, take, drop}
 use lib.Seq.{getD-take, getD-drop}
 use Rattle.text.specs.Bytes.{every, valueFrom, word, run}
-use Rattle.text.specs.Texts.{allows}
+use Rattle.text.specs.Texts.{allows, member}
 use Rattle.text.proofs.Ways.{and-first, and-second, second-holds, decide, imply}
 use Rattle.text.proofs.Among.{either-half}
 use Rattle.text.proofs.Below.{everyBelow, passes-below}
@@ -44,10 +44,6 @@ pub join : (P : ℕ → Type 0) (a b : List ℕ) → All P a → All P b → All
 unfolding All
 join P [] b p q = q
 join P (e ∷ a) b p q = (p .0, join P a b (p .1) q)
-
-member : ℕ → List ℕ → Bool
-member e [] = false
-member e (x ∷ l) = eqb e x || member e l
 
 pick : (P : ℕ → Type 0) (l : List ℕ) → All P l → (e : ℕ) → member e l ≡ true → P e
 unfolding All member

@@ -255,7 +255,7 @@ held-at (t ∷ ts) a zero = a .0
 held-at (t ∷ ts) a (suc k) = held-at ts (a .1) k
 
 module _ (ed : Edition) (xs : List ℕ) (full : length xs ≡ lengthOf ed) (cols : Columns ed xs) (legal-at : (e : ℕ) → 1 ≤ e → e ≤ lastOf ed → legal ed xs e ≡ true) (temps : Temperatures xs) where
-  all-hold : octantTie ed (textOf 6 xs) (textOf 8 xs) ≡ true → windTie (textOf 93 xs) (textOf 14 xs) ≡ true → AllHold (ties ed xs)
+  all-hold : octantTie ed (textOf 6 xs) (textOf 8 xs) ≡ true → windTie (textOf 93 xs) (textOf 14 xs) ≡ true → AllHold (true ∷ ties ed xs)
   unfolding AllHold tie
   all-hold octant swift =
       let l = legal-at in
@@ -263,6 +263,6 @@ module _ (ed : Edition) (xs : List ℕ) (full : length xs ≡ lengthOf ed) (cols
 
 pub tied : (ed : Edition) (xs : List ℕ) → length xs ≡ lengthOf ed → Columns ed xs → ((e : ℕ) → 1 ≤ e → e ≤ lastOf ed → legal ed xs e ≡ true) → Temperatures xs → Rest ed xs → (k : ℕ) → tie ed xs k ≡ true
 unfolding tie octantTie windTie every
-tied One xs full cols l temps r k = held-at (ties One xs) (all-hold One xs full cols l temps (tie-2 xs full cols l r) (rw (text-none One xs full 93 (omega arith)))) k
-tied Three xs full cols l temps r k = held-at (ties Three xs) (all-hold Three xs full cols l temps refl (tie-9 Three xs full cols l refl (r .1 .1))) k
-tied Four xs full cols l temps r k = held-at (ties Four xs) (all-hold Four xs full cols l temps refl (tie-9 Four xs full cols l refl (r .1 .1))) k
+tied One xs full cols l temps r k = held-at (true ∷ ties One xs) (all-hold One xs full cols l temps (tie-2 xs full cols l r) (rw (text-none One xs full 93 (omega arith)))) k
+tied Three xs full cols l temps r k = held-at (true ∷ ties Three xs) (all-hold Three xs full cols l temps refl (tie-9 Three xs full cols l refl (r .1 .1))) k
+tied Four xs full cols l temps r k = held-at (true ∷ ties Four xs) (all-hold Four xs full cols l temps refl (tie-9 Four xs full cols l refl (r .1 .1))) k

@@ -6,7 +6,6 @@ use mathlib.Core.List.{List, [], _∷_, map}
 use Prim.Native.Nat.{ℕ, _+_}
 use native.Mathlib.Omega.{arith}
 use borrow.Author.Tests.{le-leb, lt-leb}
-use lib.Dec.{lit≤}
 use Rattle.text.specs.Bytes.{every, blank, number, valueFrom}
 use Rattle.text.specs.First.{firstFrom}
 use Rattle.text.specs.Texts.{allows}
@@ -63,7 +62,7 @@ read ed digit latitude longitude p q r = rw (p, q, r)
 pub every-place : (from to : Edition) (xs : List ℕ) → Acceptable from xs → blank (textOf 6 xs) ≡ false → HasDigit from to xs
 unfolding tie itemOf
 every-place from to xs a p =
-    let tied = a .tied 1 (lit≤ tt) (lit≤ tt) in
+    let tied = a .tied 1 in
     let q = latitude-alike (textOf 6 xs) (textOf 7 xs) (textOf 8 xs) tied ∙ p in
     let r = longitude-alike (textOf 6 xs) (textOf 7 xs) (textOf 8 xs) tied ∙ q in
     let f = digit-found from to (number (textOf 6 xs)) (number (textOf 7 xs)) (number (textOf 8 xs)) in

@@ -16,7 +16,6 @@ use Rattle.layout.specs.Editions.{lastOf}
 use Rattle.layout.specs.Page.{page, element, textOf, textsOf, mayBeBlank, legalText, legal}
 use Rattle.layout.proofs.Beyond.{last-above}
 use Rattle.layout.proofs.Elements.{blank-legal, allowed-legal}
-use Rattle.ties.specs.Ties.{tie}
 use Rattle.checking.specs.declared.Answer.the-variants.{Accepted}
 use Rattle.checking.specs.Check.{checked}
 use Rattle.checking.specs.Acceptable.{Acceptable}
@@ -109,11 +108,8 @@ module _ (from to : Edition) (xs : List ℕ) (a : Acceptable from xs) where
       by false false true p q r = rw (eqb-true e 1 r) legal-format
       by false false false p q r = legal-other e h l (p, q) (rw (q, r))
 
-  pub every-tied : (k : ℕ) → 1 ≤ k → k ≤ 9 → tie to (result from to xs a) k ≡ true
-  every-tied k h l = ties-kept from to xs a k h l
-
   pub acceptable : Acceptable to (result from to xs a)
-  acceptable = legal-record to (result from to xs a) (result-long from to xs a) every-legal every-tied
+  acceptable = legal-record to (result from to xs a) (result-long from to xs a) every-legal (ties-kept from to xs a)
 
 -- The record is accepted, so its recast is.
 pub recast-is-accepted : (from to : Edition) (xs : List ℕ) → checked xs ≡ Accepted from → checked (recastRecord from to xs) ≡ Accepted to

@@ -1,19 +1,21 @@
 -- The ties of the recast record: the elements that they speak of are what they were, but for column 12, and RWS may have become blank. Assumes nothing.
-use mathlib.Core.Path.{_≡_, refl, ap, _∙_}
+use mathlib.Core.Path.{_≡_, refl, sym, ap, _∙_}
 use mathlib.Core.Logic.{_⊎_, inl, inr, ⊎-elim}
-use mathlib.Core.Bool.{Bool, true, false, true≢false}
+use mathlib.Core.Bool.{Bool, true, false, _||_, true≢false}
 use mathlib.Core.List.{List}
-use Prim.Native.Nat.{ℕ, zero, suc, _≤_}
-use native.Mathlib.Omega.{arith}
+use Prim.Native.Nat.{ℕ}
 use borrow.Author.Tests.{leb-true, leb-false}
 use lib.Dec.{leb, lit≤}
 use Rattle.text.specs.Bytes.{every, blank}
+use Rattle.text.specs.Texts.{among}
+use Rattle.text.proofs.Among.{either-half, among-cases, not-second}
+use Rattle.text.proofs.Ways.{second-holds, decide}
 use Rattle.layout.specs.declared.Edition.{Edition}
 use Rattle.layout.specs.declared.Edition.the-variants.{One, Three, Four}
 use Rattle.layout.specs.Editions.{lastOf}
 use Rattle.layout.specs.Page.{textOf}
 use Rattle.ties.specs.Ties.{placeTie, octantTie, windTie, tie}
-use Rattle.ties.proofs.Looks.{elementsOf, same-tie}
+use Rattle.ties.proofs.Looks.{elementsOf, same-tie, same-in, of-each}
 use Rattle.checking.specs.Acceptable.{Acceptable}
 use Rattle.hemispheres.specs.Digits.{crosses}
 use Rattle.meanings.specs.Kept.{lostAt}
@@ -59,40 +61,39 @@ module _ (from to : Edition) (xs : List ℕ) (a : Acceptable from xs) where
       by false true true p q r = inr (as-it-was from to xs a 93 (refl, refl) (lit≤ tt) (leb-true _ _ q) (leb-true _ _ r) p)
       by false false true p q r = inl (new-blank from to xs a 93 (refl, refl) (lit≤ tt) (leb-true _ _ r) (leb-false _ _ q) p)
 
-  place-tied : placeTie (textOf 6 (result from to xs a)) (textOf 7 (result from to xs a)) (textOf 8 (result from to xs a)) ≡ true
+  place-tied : tie to (result from to xs a) 1 ≡ true
   unfolding placeTie tie
-  place-tied = rw (same-there from to xs a, (unchanged 7 refl), (unchanged 8 refl)) (a .tied 1 (lit≤ tt) (lit≤ tt))
+  place-tied = rw (same-there from to xs a, (unchanged 7 refl), (unchanged 8 refl)) (a .tied 1)
 
   was : octantTie from (textOf 6 xs) (textOf 8 xs) ≡ true
   unfolding tie
-  was = a .tied 2 (lit≤ tt) (lit≤ tt)
+  was = a .tied 2
 
-  octant-tied : octantTie to (textOf 6 (result from to xs a)) (textOf 8 (result from to xs a)) ≡ true
+  octant-tied : tie to (result from to xs a) 2 ≡ true
+  unfolding tie
   octant-tied = ap (octantTie to (textOf 6 (result from to xs a))) (unchanged 8 refl) ∙ by (column from to xs a)
     where
       by : Column from to xs a → octantTie to (textOf 6 (result from to xs a)) (textOf 8 xs) ≡ true
       by (stays w e) = ap (λ (t : List ℕ). octantTie to t (textOf 8 xs)) e ∙ ⊎-elim (λ c. within-tied from to (textOf 6 xs) (textOf 8 xs) c was) (λ b. tied-blank to (textOf 6 xs) (textOf 8 xs) b) w
       by (moves c b f e) = ap (λ (t : List ℕ). octantTie to t (textOf 8 xs)) e ∙ f .ties
 
-  -- a tie of elements that are never lost
-  kept : (k : ℕ) → every steady (elementsOf k) ≡ true → tie to xs k ≡ true → tie to (result from to xs a) k ≡ true
-  kept k s h = same-tie to (result from to xs a) xs steady unchanged k s ∙ h
-
-  speed-tied : Same 93 → tie to (result from to xs a) 9 ≡ true
+  speed-tied : tie to (result from to xs a) 9 ≡ true
   unfolding tie
-  speed-tied p = ap (λ (t : List ℕ). windTie t (textOf 14 (result from to xs a))) p ∙ ap (windTie (textOf 93 xs)) (unchanged 14 refl) ∙ a .tied 9 (lit≤ tt) (lit≤ tt)
+  speed-tied =
+      ⊎-elim (no-speed (textOf 93 (result from to xs a)) (textOf 14 (result from to xs a)))
+      (λ p. ap (λ (t : List ℕ). windTie t (textOf 14 (result from to xs a))) p ∙ ap (windTie (textOf 93 xs)) (unchanged 14 refl) ∙ a .tied 9) speed-or-blank
 
-  pub ties-kept : (k : ℕ) → 1 ≤ k → k ≤ 9 → tie to (result from to xs a) k ≡ true
-  unfolding tie every
-  ties-kept zero h l = absurd (omega arith)
-  ties-kept (suc zero) h l = place-tied
-  ties-kept (suc (suc zero)) h l = octant-tied
-  ties-kept (suc (suc (suc zero))) h l = kept 3 refl (a .tied 3 (lit≤ tt) (lit≤ tt))
-  ties-kept (suc (suc (suc (suc zero)))) h l = kept 4 refl (a .tied 4 (lit≤ tt) (lit≤ tt))
-  ties-kept (suc (suc (suc (suc (suc zero))))) h l = kept 5 refl (a .tied 5 (lit≤ tt) (lit≤ tt))
-  ties-kept (suc (suc (suc (suc (suc (suc zero)))))) h l = kept 6 refl (a .tied 6 (lit≤ tt) (lit≤ tt))
-  ties-kept (suc (suc (suc (suc (suc (suc (suc zero))))))) h l = kept 7 refl (a .tied 7 (lit≤ tt) (lit≤ tt))
-  ties-kept (suc (suc (suc (suc (suc (suc (suc (suc zero)))))))) h l = kept 8 refl (a .tied 8 (lit≤ tt) (lit≤ tt))
-  ties-kept (suc (suc (suc (suc (suc (suc (suc (suc (suc zero))))))))) h l =
-      ⊎-elim (no-speed (textOf 93 (result from to xs a)) (textOf 14 (result from to xs a))) speed-tied speed-or-blank
-  ties-kept (suc (suc (suc (suc (suc (suc (suc (suc (suc (suc k)))))))))) h l = absurd (omega arith)
+  -- every other tie looks at elements that are never lost
+  steady-tie : (k : ℕ) → among 1 2 9 9 k ≡ false → every steady (elementsOf k) ≡ true
+  unfolding every
+  steady-tie k n =
+      ⊎-elim (λ y. absurd (true≢false (sym y ∙ n))) (λ y. y)
+      (either-half (among 1 2 9 9 k) _ (of-each (λ k. among 1 2 9 9 k || every steady (elementsOf k)) refl (λ k e. second-holds (among 1 2 9 9 k) _ (rw e)) k))
+
+  -- and so the recast keeps it exactly where the record does
+  pub as-before : (k : ℕ) → among 1 2 9 9 k ≡ false → tie to (result from to xs a) k ≡ tie from xs k
+  as-before k n = same-tie to (result from to xs a) xs steady unchanged k (steady-tie k n) ∙ same-in to from xs k (not-second 1 2 9 9 k n)
+
+  pub ties-kept : (k : ℕ) → tie to (result from to xs a) k ≡ true
+  ties-kept k =
+      decide (among 1 2 9 9 k) (among-cases (λ k. tie to (result from to xs a) k ≡ true) 1 2 9 9 k place-tied octant-tied speed-tied speed-tied) (λ n. as-before k n ∙ a .tied k)

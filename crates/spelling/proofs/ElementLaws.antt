@@ -131,23 +131,23 @@ module _ (ed : Edition) (xs : List ℕ) (a : Acceptable ed xs) where
   signs-back : (e : ℕ) → among 16 18 28 50 e ≡ true → Back e
   unfolding itemOf tie
   signs-back e = among-cases Back 16 18 28 50 e
-      (sign-at 16 17 refl refl (a .tied 3 (lit≤ tt) (lit≤ tt)) (lit≤ tt))
-      (sign-at 18 19 refl refl (a .tied 4 (lit≤ tt) (lit≤ tt)) (lit≤ tt))
-      (sign-at 28 29 refl refl (a .tied 5 (lit≤ tt) (lit≤ tt)) (lit≤ tt))
-      (sign-at 50 51 refl refl (a .tied 6 (lit≤ tt) (lit≤ tt)) (lit≤ tt))
+      (sign-at 16 17 refl refl (a .tied 3) (lit≤ tt))
+      (sign-at 18 19 refl refl (a .tied 4) (lit≤ tt))
+      (sign-at 28 29 refl refl (a .tied 5) (lit≤ tt))
+      (sign-at 50 51 refl refl (a .tied 6) (lit≤ tt))
 
   values-back : (e : ℕ) → among 17 19 29 51 e ≡ true → Back e
   unfolding itemOf tie
   values-back e = among-cases Back 17 19 29 51 e
-      (value-at 16 17 refl refl refl (a .tied 3 (lit≤ tt) (lit≤ tt)) (lit≤ tt))
-      (value-at 18 19 refl refl refl (a .tied 4 (lit≤ tt) (lit≤ tt)) (lit≤ tt))
-      (value-at 28 29 refl refl refl (a .tied 5 (lit≤ tt) (lit≤ tt)) (lit≤ tt))
-      (value-at 50 51 refl refl refl (a .tied 6 (lit≤ tt) (lit≤ tt)) (lit≤ tt))
+      (value-at 16 17 refl refl refl (a .tied 3) (lit≤ tt))
+      (value-at 18 19 refl refl refl (a .tied 4) (lit≤ tt))
+      (value-at 28 29 refl refl refl (a .tied 5) (lit≤ tt))
+      (value-at 50 51 refl refl refl (a .tied 6) (lit≤ tt))
 
   hemisphere-back : Back 6
   unfolding itemOf tie
   hemisphere-back h =
-      digit-back ed (textOf 6 xs) (textOf 7 xs) (textOf 8 xs) (a .tied 1 (lit≤ tt) (lit≤ tt)) (hemispheres ed) (text-long ed xs (a .full) 6 h)
+      digit-back ed (textOf 6 xs) (textOf 7 xs) (textOf 8 xs) (a .tied 1) (hemispheres ed) (text-long ed xs (a .full) 6 h)
       (in-digits (hemispheres ed) ed xs 6 (of-hemispheres ed (textOf 6 xs)) (a .lawful 6 (lit≤ tt) h))
 
   place-back : (e : ℕ) → among 7 8 7 8 e ≡ true → Back e
@@ -156,12 +156,12 @@ module _ (ed : Edition) (xs : List ℕ) (a : Acceptable ed xs) where
     where
       latitude : Back 7
       latitude h =
-          latitude-back ed (textOf 6 xs) (textOf 7 xs) (textOf 8 xs) (a .tied 1 (lit≤ tt) (lit≤ tt)) (between 0 900) (text-long ed xs (a .full) 7 h)
+          latitude-back ed (textOf 6 xs) (textOf 7 xs) (textOf 8 xs) (a .tied 1) (between 0 900) (text-long ed xs (a .full) 7 h)
           (within ed xs 0 900 7 (in-each ed 7 (Within 0 900) refl refl refl) (a .lawful 7 (lit≤ tt) h))
 
       longitude : Back 8
       longitude h =
-          longitude-back ed (textOf 6 xs) (textOf 7 xs) (textOf 8 xs) (a .tied 1 (lit≤ tt) (lit≤ tt)) (text-long ed xs (a .full) 8 h)
+          longitude-back ed (textOf 6 xs) (textOf 7 xs) (textOf 8 xs) (a .tied 1) (text-long ed xs (a .full) 8 h)
           (within ed xs 0 1800 8 (in-each ed 8 (Within 0 1800) refl refl refl) (a .lawful 8 (lit≤ tt) h))
 
   departed-back : Back 91

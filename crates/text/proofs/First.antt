@@ -10,6 +10,7 @@ use native.Mathlib.Omega.{arith}
 use borrow.Author.Tests.{leb-true, leb-false}
 use lib.Dec.{leb}
 use Rattle.text.specs.First.{firstFrom, firstOf}
+use Rattle.text.proofs.Ways.{decide}
 
 left : (n k : ℕ) → k ≤ n → n + 1 - k ≡ suc (n + 1 - (k + 1))
 left n k h = omega arith
@@ -60,6 +61,37 @@ unfolding firstFrom
 looked p k zero = nowhere (λ j h l. absurd (omega arith))
 looked p k (suc n) = step p k n (firstFrom p (suc k) n) (p k) refl (looked p (suc k) n)
 
+-- Of a test that passes at 0 and past the last place no bound is left to say: it passes everywhere, or it fails at q and passes at each lower place.
+pub data Found (p : ℕ → Bool) : ℕ → Type 0 where
+  at-none : ((j : ℕ) → p j ≡ true) → Found p 0
+  at-lowest : (q : ℕ) → 1 ≤ q → p q ≡ false → ((j : ℕ) → j < q → p j ≡ true) → Found p q
+
+module _ (p : ℕ → Bool) (before : p 0 ≡ true) where
+  pub past-zero : (q : ℕ) → p q ≡ false → 1 ≤ q
+  past-zero zero x = absurd (true≢false (sym before ∙ x))
+  past-zero (suc q) x = omega arith
+
+  from-one : (l : ℕ) → ((j : ℕ) → 1 ≤ j → j < l → p j ≡ true) → (j : ℕ) → j < l → p j ≡ true
+  from-one l f zero h = before
+  from-one l f (suc j) h = f (suc j) (omega arith) h
+
+  pub found : (n : ℕ) → ((j : ℕ) → n < j → p j ≡ true) → Found p (firstOf n p)
+  found n after = by (firstOf n p) (looked p 1 n)
+    where
+      by : (q : ℕ) → Looked p 1 n q → Found p q
+      by q (nowhere f) = at-none (λ j. decide (leb j n) (λ t. let h = leb-true j n t in from-one (1 + n) f j (omega arith)) (λ t. after j (leb-false j n t)))
+      by q (lowest r a b x f) = at-lowest r a x (from-one r f)
+
+-- a test fails first at one place
+pub same-found : (p : ℕ → Bool) (q r : ℕ) → Found p q → Found p r → q ≡ r
+same-found p q r (at-none f) (at-none g) = refl
+same-found p q r (at-none f) (at-lowest s a x g) = absurd (true≢false (sym (f s) ∙ x))
+same-found p q r (at-lowest s a x f) (at-none g) = absurd (true≢false (sym (g s) ∙ x))
+same-found p q r (at-lowest s a x f) (at-lowest t b y g) =
+    decide (leb s t)
+    (λ d. decide (leb t s) (λ e. omega (arith, leb-true s t d, leb-true t s e)) (λ e. absurd (true≢false (sym (g s (leb-false t s e)) ∙ x))))
+    (λ d. absurd (true≢false (sym (f t (leb-false s t d)) ∙ y)))
+
 -- none is found where the test passes at each place
 pub none-of-all : (p : ℕ → Bool) (n : ℕ) → ((j : ℕ) → 1 ≤ j → j < 1 + n → p j ≡ true) → firstOf n p ≡ 0
 none-of-all p n f = none (firstOf n p) (looked p 1 n)
@@ -75,19 +107,3 @@ all-of-none p k n l z j = all (firstFrom p k n) z (looked p k n)
     all : (q : ℕ) → q ≡ 0 → Looked p k n q → k ≤ j → j < k + n → p j ≡ true
     all q e (nowhere f) = f j
     all q e (lowest r a b x f) = absurd (omega arith)
-
--- the place that is found where the test fails there and passes at each lower place
-pub first-of : (p : ℕ → Bool) (n k : ℕ) → 1 ≤ k → k < 1 + n → p k ≡ false → ((j : ℕ) → 1 ≤ j → j < k → p j ≡ true) → firstOf n p ≡ k
-first-of p n k l h x f = found (firstOf n p) (looked p 1 n)
-  where
-    apart : {A : Type 0} (q : ℕ) → p q ≡ true → p q ≡ false → A
-    apart q a b = absurd (true≢false (sym a ∙ b))
-
-    found : (q : ℕ) → Looked p 1 n q → q ≡ k
-    found q (nowhere g) = apart k (g k l h) x
-    found q (lowest r a b y g) = by (leb r k) (leb k r) refl refl
-      where
-        by : (s t : Bool) → leb r k ≡ s → leb k r ≡ t → r ≡ k
-        by true true d e = omega (arith, leb-true r k d, leb-true k r e)
-        by false t d e = apart k (g k l (leb-false _ _ d)) x
-        by true false d e = apart r (f r a (leb-false _ _ e)) y

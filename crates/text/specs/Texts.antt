@@ -1,6 +1,6 @@
 -- Which texts a legal form allows. Assumes nothing.
 use Prim.Native.Nat.{ℕ}
-use mathlib.Core.List.{List}
+use mathlib.Core.List.{List, [], _∷_}
 use mathlib.Core.Bool.{Bool, false, cond, _&&_, _||_}
 use lib.Dec.{eqb, leb}
 use lib.ListN.{drop}
@@ -13,6 +13,11 @@ use Rattle.text.specs.declared.Numeral.the-variants.{Digits, Other}
 -- a number that is one of four
 abbrev pub among : ℕ → ℕ → ℕ → ℕ → ℕ → Bool
 among a b c d n = eqb n a || eqb n b || eqb n c || eqb n d
+
+-- one of some numbers
+unfoldable pub member : ℕ → List ℕ → Bool
+member n [] = false
+member n (x ∷ xs) = eqb n x || member n xs
 
 -- a character of a call sign: 0..9, A..Z
 abbrev pub isSign : ℕ → Bool

@@ -1,19 +1,21 @@
 -- A tie looks at the texts of its own elements and at nothing else: two records with the same texts there keep it or break it together. Assumes nothing.
 use mathlib.Core.Path.{_≡_, refl}
-use mathlib.Core.Bool.{Bool, true}
+use mathlib.Core.Bool.{Bool, true, false, true≢false}
 use mathlib.Core.List.{List, [], _∷_}
 use Prim.Native.Nat.{ℕ, zero, suc}
-use lib.ListN.{getD}
+use borrow.Author.Tests.{leb-true, leb-false}
+use lib.Dec.{eqb, leb}
+use lib.ListN.{length, getD, List·getD-eq-default}
 use Rattle.text.specs.Bytes.{every}
-use Rattle.text.proofs.Ways.{and-first, and-second}
+use Rattle.text.proofs.Below.{everyBelow, passes-below}
+use Rattle.text.proofs.Ways.{and-first, and-second, decide}
 use Rattle.layout.specs.declared.Edition.{Edition}
 use Rattle.layout.specs.Page.{textOf}
 use Rattle.ties.specs.Ties.{placeTie, octantTie, signTie, digitTie, windTie, ties, tie}
 
--- the elements of each tie, by its number
+-- the elements of each tie, from the first on
 abbrev pub looks : List (List ℕ)
 looks =
-    [] ∷
     (6 ∷ 7 ∷ 8 ∷ []) ∷
     (6 ∷ 8 ∷ []) ∷
     (16 ∷ 17 ∷ []) ∷
@@ -26,7 +28,7 @@ looks =
     []
 
 abbrev pub elementsOf : ℕ → List ℕ
-elementsOf k = getD looks k []
+elementsOf k = getD ([] ∷ looks) k []
 
 module _ (ed : Edition) (xs ys : List ℕ) where
   -- the same texts in some elements
@@ -58,7 +60,6 @@ module _ (ed : Edition) (xs ys : List ℕ) where
 
   all-agree : Agree (ties ed xs) (ties ed ys) looks
   all-agree =
-      (λ s. refl) then
       three placeTie then
       two (octantTie ed) then
       two signTie then
@@ -73,8 +74,21 @@ module _ (ed : Edition) (xs ys : List ℕ) where
   -- where the texts of certain elements are the same, so is each tie that looks at no others
   pub same-tie : (same : ℕ → Bool) → ((e : ℕ) → same e ≡ true → textOf e xs ≡ textOf e ys) → (k : ℕ) → every same (elementsOf k) ≡ true → tie ed xs k ≡ tie ed ys k
   unfolding tie every
-  same-tie same alike k h = agree-at all-agree k (each (elementsOf k) h)
+  same-tie same alike k h = agree-at ((λ s. refl) then all-agree) k (each (elementsOf k) h)
     where
       each : (es : List ℕ) → every same es ≡ true → Alike es
       each [] h = none
       each (e ∷ es) h = alike e (and-first _ _ h) and each es (and-second (same e) _ h)
+
+-- no tie but the second goes by the edition
+pub same-in : (ed to : Edition) (xs : List ℕ) (k : ℕ) → eqb k 2 ≡ false → tie ed xs k ≡ tie to xs k
+unfolding tie
+same-in ed to xs zero h = refl
+same-in ed to xs (suc zero) h = refl
+same-in ed to xs (suc (suc zero)) h = absurd (true≢false h)
+same-in ed to xs (suc (suc (suc k))) h = refl
+
+-- what a test says of each tie by its elements, and of no elements, it says of every number
+pub of-each : (test : ℕ → Bool) → everyBelow (length ([] ∷ looks)) test ≡ true → ((k : ℕ) → elementsOf k ≡ [] → test k ≡ true) → (k : ℕ) → test k ≡ true
+of-each test h f k =
+    decide (leb (length ([] ∷ looks)) k) (λ t. f k (List·getD-eq-default ([] ∷ looks) [] (leb-true _ k t))) (λ t. passes-below (length ([] ∷ looks)) test h k (leb-false _ k t))

@@ -1,16 +1,17 @@
 -- What each way through a tie's code says of the tie. Assumes nothing.
 use mathlib.Core.Path.{_≡_, refl, sym, ap, _∙_}
-use mathlib.Core.Bool.{Bool, true, false, not, _&&_, Bool·beq}
-use mathlib.Core.List.{List}
-use Prim.Native.Nat.{ℕ, suc, _≤_, _<_}
-use native.Mathlib.Nat.{eq-zero-or-pos}
-use native.Mathlib.Omega.{arith}
-use lib.Dec.{eqb}
+use mathlib.Core.Bool.{Bool, true, false, not, _&&_, Bool·beq, true≢false}
+use mathlib.Core.List.{List, _∷_}
+use Prim.Native.Nat.{ℕ, zero, suc, _≤_, _<_}
+use native.Mathlib.Nat.{eq-zero-or-pos, eq-or-lt-of-le}
+use borrow.Author.Tests.{leb-true, leb-false}
+use lib.Dec.{eqb, leb}
 use mathlib.Core.Logic.{⊎-elim}
-use lib.ListN.{List·getD-eq-default}
+use lib.ListN.{length, List·getD-eq-default}
 use Rattle.text.specs.Bytes.{number}
-use Rattle.text.proofs.Ways.{and-stops, and-goes-on}
-use Rattle.ties.specs.Ties.{there, placeTie, octantFits, negative, signTie, ties, tie}
+use Rattle.text.proofs.First.{Found, past-zero, found, same-found}
+use Rattle.text.proofs.Ways.{and-stops, and-goes-on, decide}
+use Rattle.ties.specs.Ties.{there, placeTie, octantFits, negative, signTie, ties, tie, firstBroken}
 use Rattle.layout.specs.declared.Edition.{Edition}
 
 -- two texts: both there or both blank
@@ -45,20 +46,39 @@ module _ {A : Type 0} {r : Bool} where
   pub of-three : (f : A → A → A → Bool) {a a′ b b′ c c′ : A} → r ≡ f a b c → a ≡ a′ → b ≡ b′ → c ≡ c′ → r ≡ f a′ b′ c′
   of-three f {a} {a′} {b} {b′} {c} {c′} e p q s = of-two (λ x y. f x y c′) (e ∙ ap (f a b) s) p q
 
-beyond : {n k : ℕ} → n ≤ k → (k ≡ n → ⊥) → suc n ≤ k
-beyond h f = omega arith
+-- a number that is none of 1 to n, as a match says it of its last arm
+abbrev pub NoneUpTo : ℕ → ℕ → Type 0
+NoneUpTo zero k = Unit
+NoneUpTo (suc n) k = NoneUpTo n k × (k ≡ suc n → ⊥)
 
--- a number of no tie
-pub no-tie : (ed : Edition) (xs : List ℕ) (k : ℕ) → (k ≡ 1 → ⊥) → (k ≡ 2 → ⊥) → (k ≡ 3 → ⊥) → (k ≡ 4 → ⊥) → (k ≡ 5 → ⊥) → (k ≡ 6 → ⊥) → (k ≡ 7 → ⊥) → (k ≡ 8 → ⊥) →
-    (k ≡ 9 → ⊥) → true ≡ tie ed xs k
-unfolding tie
-no-tie ed xs k a b c d e f g h i = ⊎-elim (λ z. rw z) (λ p. sym (List·getD-eq-default (ties ed xs) true (beyond (beyond (beyond (beyond (beyond (beyond (beyond (beyond (beyond p a) b) c) d) e) f) g) h) i))) (eq-zero-or-pos k)
+beyond : (n k : ℕ) → 1 ≤ k → NoneUpTo n k → n < k
+beyond zero k h f = h
+beyond (suc n) k h f = let l = beyond n k h (f .0) in ⊎-elim (λ e. absurd (f .1 (sym e))) (λ m. m) (eq-or-lt-of-le l)
 
 module _ (ed : Edition) (xs : List ℕ) where
-  pub tie-none : (k : ℕ) → 9 < k → tie ed xs k ≡ true
-  unfolding tie
-  tie-none k h = List·getD-eq-default (ties ed xs) true h
-
   pub tie-zero : tie ed xs 0 ≡ true
   unfolding tie
   tie-zero = refl
+
+  pub tie-none : (k : ℕ) → length (ties ed xs) < k → tie ed xs k ≡ true
+  unfolding tie
+  tie-none k h = List·getD-eq-default (true ∷ ties ed xs) true h
+
+  -- a number of no tie
+  pub no-tie : (k : ℕ) → NoneUpTo (length (ties ed xs)) k → true ≡ tie ed xs k
+  no-tie k f = sym (⊎-elim (λ z. ap (tie ed xs) z ∙ tie-zero) (λ h. tie-none k (beyond _ k h f)) (eq-zero-or-pos k))
+
+  -- a tie that is broken is one of those that there are
+  pub broken-past-zero : (k : ℕ) → tie ed xs k ≡ false → 1 ≤ k
+  broken-past-zero = past-zero (tie ed xs) tie-zero
+
+  pub broken-listed : (k : ℕ) → tie ed xs k ≡ false → k ≤ length (ties ed xs)
+  broken-listed k x = decide (leb k (length (ties ed xs))) (leb-true k _) (λ t. absurd (true≢false (sym (tie-none k (leb-false k _ t)) ∙ x)))
+
+  -- the lowest broken tie, with no word of how many there are: none, or one that is broken where each lower one holds
+  pub lowest-broken : Found (tie ed xs) (firstBroken ed xs)
+  unfolding firstBroken
+  lowest-broken = found (tie ed xs) tie-zero (length (ties ed xs)) tie-none
+
+  pub is-lowest : (k : ℕ) → Found (tie ed xs) k → firstBroken ed xs ≡ k
+  is-lowest k = same-found (tie ed xs) _ k lowest-broken

@@ -3,9 +3,10 @@ use Prim.Native.Nat.{ℕ, _%_}
 use mathlib.Core.List.{List, [], _∷_}
 use mathlib.Core.Bool.{Bool, true, cond, not, _&&_, _||_, Bool·beq}
 use lib.Dec.{eqb, leb}
-use lib.ListN.{getD}
+use lib.ListN.{length, getD}
 use Rattle.text.specs.Bytes.{blank, number}
 use Rattle.text.specs.Texts.{among}
+use Rattle.text.specs.First.{firstOf}
 use Rattle.layout.specs.declared.Edition.{Edition}
 use Rattle.layout.specs.declared.Edition.the-variants.{One, Three, Four}
 use Rattle.layout.specs.Page.{textOf}
@@ -53,10 +54,9 @@ digitTie format air dewSign dewPoint sea wetSign wetBulb =
 unfoldable pub windTie : List ℕ → List ℕ → Bool
 windTie speed indicator = blank speed || there indicator
 
--- the ties of a record by number, from 1 on; past the last there is none to break
+-- the ties of a record, from the first on: how many there are is said here and nowhere else
 abbrev pub ties : Edition → List ℕ → List Bool
 ties ed xs =
-    true ∷
     placeTie (textOf 6 xs) (textOf 7 xs) (textOf 8 xs) ∷
     octantTie ed (textOf 6 xs) (textOf 8 xs) ∷
     signTie (textOf 16 xs) (textOf 17 xs) ∷
@@ -68,5 +68,10 @@ ties ed xs =
     windTie (textOf 93 xs) (textOf 14 xs) ∷
     []
 
+-- a tie by its number, from 1 on; at 0 and past the last there is none to break
 unfoldable pub tie : Edition → List ℕ → ℕ → Bool
-tie ed xs k = getD (ties ed xs) k true
+tie ed xs k = getD (true ∷ ties ed xs) k true
+
+-- the lowest tie that is broken, or 0
+unfoldable pub firstBroken : Edition → List ℕ → ℕ
+firstBroken ed xs = firstOf (length (ties ed xs)) (tie ed xs)

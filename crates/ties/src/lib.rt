@@ -10,8 +10,7 @@ ghost use mathlib.Core.Bool.{Bool·beq, not, _&&_};
 ghost use Prim.Native.Nat.{_≤_};
 ghost use lib.Dec.{eqb};
 ghost use lib.ListN.{length};
-ghost use Rattle.text.specs.First.{firstOf};
-ghost use Rattle.ties.specs.Ties.{there, placeTie, octantFits, octantTie, negative, signTie, lastDigit, tenthsFit, measuredFit, windTie, tie};
+ghost use Rattle.ties.specs.Ties.{there, placeTie, octantFits, octantTie, negative, signTie, lastDigit, tenthsFit, measuredFit, windTie, tie, firstBroken};
 
 // Is the element filled?
 fn is_there(text: &[u8]) -> bool
@@ -149,6 +148,9 @@ fn wind_tie(speed: &[u8], indicator: &[u8]) -> bool
     text::is_blank(speed) || is_there(indicator)
 }
 
+// The number of the last tie.
+const LAST: usize = 9;
+
 // Does tie k hold?
 fn holds(edition: Edition, line: &[u8], k: usize) -> bool
     ensures { λ r. ⌜ r ≡ tie edition (now (line .entry)) k ⌝ }
@@ -177,10 +179,10 @@ fn holds(edition: Edition, line: &[u8], k: usize) -> bool
 
 // The lowest tie that is broken, or 0.
 pub fn first_broken(edition: Edition, line: &[u8]) -> usize
-    ensures { λ r. ⌜ r ≡ firstOf 9 (tie edition (now (line .entry))) ⌝ }
+    ensures { λ r. ⌜ r ≡ firstBroken edition (now (line .entry)) ⌝ }
 {
     let mut k = 1;
-    while k <= 9 {
+    while k <= LAST {
         if !holds(edition, line, k) {
             return k;
         }

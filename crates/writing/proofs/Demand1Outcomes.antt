@@ -7,13 +7,13 @@ use Prim.Native.Nat.{ℕ, _+_}
 use native.Mathlib.Omega.{arith}
 use borrow.Author.Tests.{ne-eqb, lt-leb}
 use lib.ListN.{length}
-use Rattle.text.proofs.First.{none-of-all, first-of}
+use Rattle.text.proofs.First.{none-of-all, at-none, at-lowest}
 use Rattle.layout.specs.declared.Edition.{Edition}
 use Rattle.layout.specs.declared.Named.{Named}
 use Rattle.layout.specs.declared.Named.the-variants.{Known, Unknown}
 use Rattle.layout.specs.declared.Refusal.{Refusal}
 use Rattle.layout.specs.Editions.{asked}
-use Rattle.ties.specs.Ties.{tie}
+use Rattle.ties.proofs.TieLaws.{broken-past-zero, is-lowest}
 use Rattle.reading.specs.declared.Reading.{Reading}
 use Rattle.spelling.specs.Spelled.{recordOf}
 use Rattle.writing.specs.declared.Outcome.{Outcome}
@@ -35,7 +35,7 @@ module _ (ed : Edition) (rs : List Reading) (room : ℕ) where
   -- the outcome fits
   fits-in : (o : Outcome) → Judged ed rs room o → FitsIn ed rs room o
   fits-in o (DoneLaws.unwritable m a b x f) = ungivable _ (lowest-ungivable ed rs m a (omega arith) x f)
-  fits-in o (DoneLaws.breaking f m a b x g) = broken (all-givable f) m a b x g
+  fits-in o (DoneLaws.breaking f m x g) = broken (all-givable f) m x g
   fits-in o (DoneLaws.cramped f g h) = cramped (all-givable f) g h
   fits-in o (DoneLaws.kept f g h) = fully (all-givable f) g h
 
@@ -43,10 +43,11 @@ module _ (ed : Edition) (rs : List Reading) (room : ℕ) where
   is-the-one : (o : Outcome) → FitsIn ed rs room o → o ≡ writtenIn ed rs room
   unfolding writtenIn
   is-the-one o (ungivable e u) = sym (refused-exactly ed rs e room .1 u)
-  is-the-one o (broken g k a b x f) =
-      rw (none-of-all (writes ed rs (recordOf ed rs)) 101 (all-written g), first-of (tie ed (recordOf ed rs)) 9 k a b x f, ne-eqb k 0 (λ z. omega arith))
+  is-the-one o (broken g k x f) =
+      let low = broken-past-zero ed (recordOf ed rs) k x in
+      rw (none-of-all (writes ed rs (recordOf ed rs)) 101 (all-written g), is-lowest ed (recordOf ed rs) k (at-lowest k low x f), ne-eqb k 0 (λ z. omega arith))
   is-the-one o (cramped g f h) =
-      rw (none-of-all (writes ed rs (recordOf ed rs)) 101 (all-written g), none-of-all (tie ed (recordOf ed rs)) 9 f, lt-leb _ _ h)
+      rw (none-of-all (writes ed rs (recordOf ed rs)) 101 (all-written g), is-lowest ed (recordOf ed rs) 0 (at-none f), lt-leb _ _ h)
   is-the-one o (fully g f h) = sym (means-done ed rs room (all-written g) f h)
 
 -- what write answers fits, and nothing else does

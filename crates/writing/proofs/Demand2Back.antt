@@ -58,7 +58,7 @@ module _ (ed : Edition) (xs : List ℕ) (a : Acceptable ed xs) (rs : List Readin
   pub written-back : (room : ℕ) → lengthOf ed ≤ room → writtenIn ed rs room ≡ Done
   written-back room h = means-done ed rs room
       (λ e l m. ap (λ (ys : List ℕ). writes ed rs ys e) record-back ∙ each-written e l (omega arith))
-      (λ k l m. ap (λ (ys : List ℕ). tie ed ys k) record-back ∙ a .tied k l (omega arith))
+      (λ k. ap (λ (ys : List ℕ). tie ed ys k) record-back ∙ a .tied k)
       h
 
   -- the lent buffer then begins with the record's characters, and the rest of it is what it was

@@ -92,7 +92,7 @@ module _ (ed : Edition) (rs : List Reading) where
     where
       to : (o : Outcome) → Judged ed rs room o → o ≡ Unwritten (Illegal k) → Ungivable ed rs k
       to o (unwritable m a b x below) e = rw (sym (ap outcomePlace e)) (lowest-ungivable m a (omega arith) x below)
-      to o (breaking f m a b x g) e = let z = ap outcomeNumber e in absurd (omega arith)
+      to o (breaking f m x g) e = let z = ap outcomeNumber e in absurd (omega arith)
       to o (cramped f g h) e = let z = ap outcomeNumber e in absurd (omega arith)
       to o (kept f g h) e = let z = ap outcomeNumber e in absurd (omega arith)
 
@@ -101,6 +101,6 @@ module _ (ed : Edition) (rs : List Reading) where
 
       from : Ungivable ed rs k → (o : Outcome) → Judged ed rs room o → o ≡ Unwritten (Illegal k)
       from u o (unwritable m a b x below) = ap (λ (p : ℕ). Unwritten (Illegal p)) (only-one (lead m) k (lowest-ungivable m a (omega arith) x below) u)
-      from u o (breaking f m a b x g) = absurd (no-more u f)
+      from u o (breaking f m x g) = absurd (no-more u f)
       from u o (cramped f g h) = absurd (no-more u f)
       from u o (kept f g h) = absurd (no-more u f)

@@ -1,19 +1,20 @@
--- Demand 2: which ties a write can break. Readings say one thing of a place and of a temperature, so ties 1 and 3 to 6 hold of what is spelled from them; ties
--- 2, 7, 8 and 9 are between readings, and Demand2TiesBroken breaks each. Assumes nothing.
+-- Demand 2: which ties a write can break. Readings say one thing of a place and of a temperature, so ties 1 and 3 to 6 hold of what is spelled from them; the
+-- others are between readings, and Demand2TiesBroken breaks each. Assumes nothing.
 use mathlib.Core.Path.{_≡_, refl, sym, ap, _∙_}
 use mathlib.Core.Bool.{Bool, true, false, _&&_, _||_, true≢false}
 use mathlib.Core.Logic.{⊎-elim}
-use mathlib.Core.List.{List}
-use Prim.Native.Nat.{ℕ, zero, suc, _+_, _-_, _<_, _≤_}
+use mathlib.Core.List.{List, [], _∷_}
+use Prim.Native.Nat.{ℕ, zero, suc, _+_, _<_, _≤_}
 use native.Mathlib.Omega.{arith}
 use borrow.Author.Tests.{eqb-true}
 use lib.Dec.{eqb, lit≤}
 use lib.IntN.{pos}
-use Rattle.text.specs.Bytes.{every, between, blank, number, valueFrom}
-use Rattle.text.specs.Texts.{among}
-use Rattle.text.proofs.Ranges.{greatest}
-use Rattle.text.proofs.Among.{either-half}
-use Rattle.text.proofs.Ways.{and-first, and-second}
+use lib.ListN.{length}
+use Rattle.text.specs.Bytes.{every, blank, number, valueFrom}
+use Rattle.text.specs.Texts.{among, member}
+use Rattle.text.proofs.Among.{either-half, at-number, among-cases}
+use Rattle.text.proofs.Below.{everyBelow, passes-below}
+use Rattle.text.proofs.Ways.{and-first, and-second, decide}
 use Rattle.numerals.specs.Spelling.{spelled, spell, inDigits, inBlanks}
 use Rattle.layout.specs.declared.Edition.{Edition}
 use Rattle.layout.specs.declared.Refusal.the-variants.{Broken}
@@ -21,6 +22,7 @@ use Rattle.layout.specs.Page.{element, page, widthOf, textOf}
 use Rattle.layout.proofs.Beyond.{last-above}
 use Rattle.ties.specs.Ties.{placeTie, signTie, tie}
 use Rattle.ties.specs.Ties as Ties
+use Rattle.ties.proofs.TieLaws.{broken-past-zero, broken-listed}
 use Rattle.reading.specs.declared.Kind.{Kind}
 use Rattle.reading.specs.declared.Kind.the-variants.{Measured, Computed}
 use Rattle.reading.specs.declared.Reading.{Reading}
@@ -31,7 +33,14 @@ use Rattle.writing.specs.declared.Outcome.{Outcome}
 use Rattle.writing.specs.declared.Outcome.the-variants.{Unwritten}
 use Rattle.writing.specs.Written.{writes, writtenIn, outcomeNumber, outcomePlace}
 use Rattle.writing.proofs.EachLaws.{own-text}
-use Rattle.writing.proofs.DoneLaws.{WritesBelow, Judged, unwritable, breaking, cramped, kept, judged}
+use Rattle.writing.proofs.DoneLaws.{Judged, unwritable, breaking, cramped, kept, judged}
+
+-- the ties within a reading, which says one thing of a place or of a temperature; and those between readings
+abbrev pub within-readings : ℕ → Bool
+within-readings k = eqb k 1 || among 3 4 5 6 k
+
+abbrev pub between-readings : List ℕ
+between-readings = 2 ∷ 7 ∷ 8 ∷ 9 ∷ []
 
 -- a sign and a temperature that are spelled from what they read as
 module _ (ed : Edition) (e f : ℕ) (s v : List ℕ) (g : among 16 18 28 50 e ≡ true) (one : widthOf e ≡ 1) (three : widthOf f ≡ 3)
@@ -101,45 +110,42 @@ module _ (ed : Edition) (rs : List Reading) (each : (e : ℕ) → 1 ≤ e → e 
       (text e a b ∙ ap (λ (r : Reading). spell (widthOf e) (numeralFor ed e r)) i)
       (text f c d ∙ ap (λ (r : Reading). spell (widthOf f) (numeralFor ed f r)) j)
 
+  abbrev Tied : ℕ → Type 0
+  Tied k = tie ed (recordOf ed rs) k ≡ true
+
   -- where every reading could be written, ties 1 and 3 to 6 hold
-  pub ties-kept : (k : ℕ) → (eqb k 1 || between 3 6 k) ≡ true → tie ed (recordOf ed rs) k ≡ true
+  pub ties-kept : (k : ℕ) → within-readings k ≡ true → Tied k
   unfolding tie itemOf element page
-  ties-kept zero h = refl
-  ties-kept (suc zero) h =
-      place-tied ed (Text 6) (Text 7) (Text 8) (text 6 (lit≤ tt) (lit≤ tt)) (text 7 (lit≤ tt) (lit≤ tt)) (text 8 (lit≤ tt) (lit≤ tt))
-  ties-kept (suc (suc zero)) h = absurd (true≢false (sym h))
-  ties-kept (suc (suc (suc zero))) h = pair 16 17 refl refl refl (lit≤ tt) (lit≤ tt) (lit≤ tt) (lit≤ tt) refl refl
-  ties-kept (suc (suc (suc (suc zero)))) h = pair 18 19 refl refl refl (lit≤ tt) (lit≤ tt) (lit≤ tt) (lit≤ tt) refl refl
-  ties-kept (suc (suc (suc (suc (suc zero))))) h = pair 28 29 refl refl refl (lit≤ tt) (lit≤ tt) (lit≤ tt) (lit≤ tt) refl refl
-  ties-kept (suc (suc (suc (suc (suc (suc zero)))))) h = pair 50 51 refl refl refl (lit≤ tt) (lit≤ tt) (lit≤ tt) (lit≤ tt) refl refl
-  ties-kept (suc (suc (suc (suc (suc (suc (suc k))))))) h =
-      let n : ℕ = suc (suc (suc (suc (suc (suc (suc k)))))) in
-      absurd (⊎-elim (λ a. let l : n ≡ 1 = eqb-true n 1 a in omega arith) (λ a. let l = greatest 3 6 n a in omega arith) (either-half (eqb n 1) (between 3 6 n) h))
+  ties-kept k h =
+      ⊎-elim
+      (λ one. at-number Tied k 1 one (place-tied ed (Text 6) (Text 7) (Text 8) (text 6 (lit≤ tt) (lit≤ tt)) (text 7 (lit≤ tt) (lit≤ tt)) (text 8 (lit≤ tt) (lit≤ tt))))
+      (among-cases Tied 3 4 5 6 k
+      (pair 16 17 refl refl refl (lit≤ tt) (lit≤ tt) (lit≤ tt) (lit≤ tt) refl refl)
+      (pair 18 19 refl refl refl (lit≤ tt) (lit≤ tt) (lit≤ tt) (lit≤ tt) refl refl)
+      (pair 28 29 refl refl refl (lit≤ tt) (lit≤ tt) (lit≤ tt) (lit≤ tt) refl refl)
+      (pair 50 51 refl refl refl (lit≤ tt) (lit≤ tt) (lit≤ tt) (lit≤ tt) refl refl))
+      (either-half (eqb k 1) (among 3 4 5 6 k) h)
 
--- the ties that are left
-left : (k : ℕ) → 1 ≤ k → k < 10 → (eqb k 1 || between 3 6 k) ≡ false → among 2 7 8 9 k ≡ true
-left zero l h e = absurd (omega arith)
-left (suc zero) l h e = absurd (true≢false e)
-left (suc (suc zero)) l h e = refl
-left (suc (suc (suc zero))) l h e = absurd (true≢false e)
-left (suc (suc (suc (suc zero)))) l h e = absurd (true≢false e)
-left (suc (suc (suc (suc (suc zero))))) l h e = absurd (true≢false e)
-left (suc (suc (suc (suc (suc (suc zero)))))) l h e = absurd (true≢false e)
-left (suc (suc (suc (suc (suc (suc (suc zero))))))) l h e = refl
-left (suc (suc (suc (suc (suc (suc (suc (suc zero)))))))) l h e = refl
-left (suc (suc (suc (suc (suc (suc (suc (suc (suc zero))))))))) l h e = refl
-left (suc (suc (suc (suc (suc (suc (suc (suc (suc (suc k)))))))))) l h e = absurd (omega arith)
+-- every tie is of the one kind or of the other
+module _ (ed : Edition) (xs : List ℕ) where
+  either-kind : everyBelow (length (Ties.ties ed xs)) (λ k. within-readings (suc k) || member (suc k) between-readings) ≡ true
+  unfolding member
+  either-kind = refl
 
--- write breaks no tie but 2, 7, 8 and 9
-pub breaks-only : (ed : Edition) (rs : List Reading) (room k : ℕ) → writtenIn ed rs room ≡ Unwritten (Broken k) → among 2 7 8 9 k ≡ true
+  other-kind : (k : ℕ) → tie ed xs k ≡ false → within-readings k ≡ false → member k between-readings ≡ true
+  other-kind zero x n = absurd (omega (arith, broken-past-zero ed xs 0 x))
+  other-kind (suc k) x n =
+      ⊎-elim (λ y. absurd (true≢false (sym y ∙ n))) (λ y. y)
+      (either-half (within-readings (suc k)) _ (passes-below (length (Ties.ties ed xs)) (λ k. within-readings (suc k) || member (suc k) between-readings) either-kind k (broken-listed ed xs (suc k) x)))
+
+-- write breaks no tie but those between readings
+pub breaks-only : (ed : Edition) (rs : List Reading) (room k : ℕ) → writtenIn ed rs room ≡ Unwritten (Broken k) → member k between-readings ≡ true
 breaks-only ed rs room k e = by _ (judged ed rs room) e
   where
-    which : (m : ℕ) → WritesBelow ed rs (1 + 101) → 1 ≤ m → m < 10 → tie ed (recordOf ed rs) m ≡ false → (t : Bool) → (eqb m 1 || between 3 6 m) ≡ t → among 2 7 8 9 m ≡ true
-    which m f l h x true s = absurd (true≢false (sym (ties-kept ed rs f m s) ∙ x))
-    which m f l h x false s = left m l h s
-
-    by : (o : Outcome) → Judged ed rs room o → o ≡ Unwritten (Broken k) → among 2 7 8 9 k ≡ true
+    by : (o : Outcome) → Judged ed rs room o → o ≡ Unwritten (Broken k) → member k between-readings ≡ true
     by o (unwritable m a b x f) z = let n = ap outcomeNumber z in absurd (omega arith)
-    by o (breaking f m a b x g) z = ap (among 2 7 8 9) (sym (ap outcomePlace z)) ∙ which m f a b x _ refl
+    by o (breaking f m x g) z =
+        ap (λ (n : ℕ). member n between-readings) (sym (ap outcomePlace z)) ∙
+        decide (within-readings m) (λ s. absurd (true≢false (sym (ties-kept ed rs f m s) ∙ x))) (other-kind ed (recordOf ed rs) m x)
     by o (cramped f g h) z = let n = ap outcomeNumber z in absurd (omega arith)
     by o (kept f g h) z = let n = ap outcomeNumber z in absurd (omega arith)

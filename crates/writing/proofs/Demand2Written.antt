@@ -19,13 +19,13 @@ use Rattle.reading.specs.Readings.{readingOf}
 use Rattle.spelling.specs.Spelled.{given, recordOf}
 use Rattle.spelling.proofs.RecordLaws.{record-long}
 use Rattle.writing.specs.declared.Outcome.the-variants.{Done}
-use Rattle.writing.specs.Fits.{TiedBelow}
+use Rattle.writing.specs.Fits.{AllTied}
 use Rattle.writing.specs.Written.{writtenIn, writtenAs, written, filledBy, afterAs, after, outcomeNumber}
 use Rattle.writing.proofs.EachLaws.{every-legal, as-given}
 use Rattle.writing.proofs.DoneLaws.{WritesBelow, done-means}
 
-acceptable : (ed : Edition) (rs : List Reading) → WritesBelow ed rs (1 + 101) → TiedBelow ed rs (1 + 9) → Acceptable ed (recordOf ed rs)
-acceptable ed rs each all = legal-record ed (recordOf ed rs) (record-long ed rs) (every-legal ed rs each) (λ k h l. all k h (omega arith))
+acceptable : (ed : Edition) (rs : List Reading) → WritesBelow ed rs (1 + 101) → AllTied ed rs → Acceptable ed (recordOf ed rs)
+acceptable ed rs each all = legal-record ed (recordOf ed rs) (record-long ed rs) (every-legal ed rs each) all
 
 -- check accepts what was written
 pub written-is-accepted : (ed : Edition) (rs : List Reading) (room : ℕ) → writtenIn ed rs room ≡ Done → checked (recordOf ed rs) ≡ Accepted ed

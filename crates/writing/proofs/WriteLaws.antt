@@ -14,7 +14,7 @@ use Rattle.layout.specs.declared.Refusal.the-variants.{Illegal, Broken, Room}
 use Rattle.layout.specs.Editions.{lengthOf}
 use Rattle.layout.specs.Records.{recordFrom}
 use Rattle.layout.proofs.RecordLaws.{most}
-use Rattle.ties.specs.Ties.{tie}
+use Rattle.ties.specs.Ties.{firstBroken}
 use Rattle.reading.specs.declared.Reading.{Reading}
 use Rattle.reading.specs.Readings.{lead}
 use Rattle.spelling.specs.Spelled.{rowFor, recordOf}
@@ -45,7 +45,7 @@ module _ (ed : Edition) (rs : List Reading) (room : ℕ) (xs : List ℕ) (x : xs
   unfolding writtenIn
   not-writable h l f = rw (← x, ← p, ne-eqb e 0 h) (ap (λ (k : ℕ). Unwritten (Illegal k)) f)
 
-  module _ (z : e ≡ 0) (k : ℕ) (q : k ≡ firstOf 9 (tie ed xs)) where
+  module _ (z : e ≡ 0) (k : ℕ) (q : k ≡ firstBroken ed xs) where
     pub breaks : (k ≡ 0 → ⊥) → Unwritten (Broken k) ≡ writtenIn ed rs room
     unfolding writtenIn
     breaks h = rw (← x, ← p, eq-eqb e 0 z, ← q, ne-eqb k 0 h)

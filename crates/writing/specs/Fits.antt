@@ -15,18 +15,21 @@ use Rattle.writing.specs.declared.Outcome.{Outcome}
 use Rattle.writing.specs.declared.Outcome.the-variants.{Done, Unwritten}
 use Rattle.writing.specs.Givable.{Givable, Ungivable}
 
--- legal texts give every reading; every tie below k holds
+-- legal texts give every reading; every tie holds, or every one below k
 abbrev pub AllGivable : Edition → List Reading → Type 0
 AllGivable ed rs = (e : ℕ) → 1 ≤ e → Givable ed rs e
 
 abbrev pub TiedBelow : Edition → List Reading → ℕ → Type 0
-TiedBelow ed rs k = (j : ℕ) → 1 ≤ j → j < k → tie ed (recordOf ed rs) j ≡ true
+TiedBelow ed rs k = (j : ℕ) → j < k → tie ed (recordOf ed rs) j ≡ true
+
+abbrev pub AllTied : Edition → List Reading → Type 0
+AllTied ed rs = (k : ℕ) → tie ed (recordOf ed rs) k ≡ true
 
 pub data FitsIn (ed : Edition) (rs : List Reading) (room : ℕ) : Outcome → Type 0 where
   ungivable : (e : ℕ) → Ungivable ed rs e → FitsIn ed rs room (Unwritten (Illegal e))
-  broken : AllGivable ed rs → (k : ℕ) → 1 ≤ k → k < 10 → tie ed (recordOf ed rs) k ≡ false → TiedBelow ed rs k → FitsIn ed rs room (Unwritten (Broken k))
-  cramped : AllGivable ed rs → TiedBelow ed rs 10 → room < lengthOf ed → FitsIn ed rs room (Unwritten Room)
-  written : AllGivable ed rs → TiedBelow ed rs 10 → lengthOf ed ≤ room → FitsIn ed rs room Done
+  broken : AllGivable ed rs → (k : ℕ) → tie ed (recordOf ed rs) k ≡ false → TiedBelow ed rs k → FitsIn ed rs room (Unwritten (Broken k))
+  cramped : AllGivable ed rs → AllTied ed rs → room < lengthOf ed → FitsIn ed rs room (Unwritten Room)
+  written : AllGivable ed rs → AllTied ed rs → lengthOf ed ≤ room → FitsIn ed rs room Done
 
 pub data Fits (rs : List Reading) (edition room : ℕ) : Outcome → Type 0 where
   unheld : asked edition ≡ Unknown → Fits rs edition room (Unwritten Unheld)

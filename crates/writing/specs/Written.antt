@@ -13,7 +13,7 @@ use Rattle.layout.specs.declared.Refusal.the-variants.{Illegal, Broken, Unheld,
 use Rattle.layout.specs.Editions.{asked, lengthOf}
 use Rattle.layout.specs.Page.{legal}
 use Rattle.layout.specs.Refusals.{numberOf, placeOf}
-use Rattle.ties.specs.Ties.{tie}
+use Rattle.ties.specs.Ties.{firstBroken}
 use Rattle.reading.specs.declared.Reading.{Reading}
 use Rattle.reading.specs.Readings.{lead, readingOf}
 use Rattle.spelling.specs.Same.{same}
@@ -32,7 +32,7 @@ unwrittenAt r p next = cond (eqb p 0) next (Unwritten (r p))
 unfoldable pub writtenIn : Edition → List Reading → ℕ → Outcome
 writtenIn ed rs room =
     unwrittenAt (λ e. Illegal (lead e)) (firstOf 101 (writes ed rs (recordOf ed rs)))
-    (unwrittenAt Broken (firstOf 9 (tie ed (recordOf ed rs)))
+    (unwrittenAt Broken (firstBroken ed (recordOf ed rs))
     (cond (leb (lengthOf ed) room) Done (Unwritten Room)))
 
 unfoldable pub writtenAs : Named → List Reading → ℕ → Outcome

@@ -21,7 +21,7 @@ check-in-order-requires c κs = search needs
 returns : tie.Need-returns
 returns c =
     let s = c .before .before .before .edition-of .ensures _ (c .before .edition .given .1) in
-    sym (accepted-exactly _ _ .1 (legal-record _ _ (s .full) (s .lawful) (λ k h l. s .tied k)))
+    sym (accepted-exactly _ _ .1 (legal-record _ _ (s .full) (s .lawful) (s .tied)))
 
 returns-2 : tie.Need-returns-2
 returns-2 c = search needs

@@ -127,7 +127,7 @@ unfolding Ties.tie textOf startOf element columns page
 returns-9 c = of-two windTie (c .wind-tie2 .ensures) (c .before .before .columns16 .ensures .0) (c .before .columns17 .ensures .0) ∙ at-tie (c .before .before .before .before .before) (c .before .before .before .match .keys9)
 
 returns-10 : tie.Need-returns-10
-returns-10 c = no-tie _ _ _ (c .match .rest .0 .0 .0 .0 .0 .0 .0 .0 .1) (c .match .rest .0 .0 .0 .0 .0 .0 .0 .1) (c .match .rest .0 .0 .0 .0 .0 .0 .1) (c .match .rest .0 .0 .0 .0 .0 .1) (c .match .rest .0 .0 .0 .0 .1) (c .match .rest .0 .0 .0 .1) (c .match .rest .0 .0 .1) (c .match .rest .0 .1) (c .match .rest .1)
+returns-10 c = no-tie _ _ _ (c .match .rest)
 
 pub holds-spec : {M : Type 1} → statement M
 holds-spec =

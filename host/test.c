@@ -239,7 +239,13 @@ static void refusals_6_and_7(void)
     both_refuse("7: tie 7", with(with(with_byte(blank(4), 1, '5'), 28, "0"), 29, "125"), IMMT_REFUSED_TIE, 7);
     both_refuse("7: tie 8", with(blank(1), 15, "12"), IMMT_REFUSED_TIE, 8);
     both_refuse("7: tie 9", with(blank(3), 93, "012"), IMMT_REFUSED_TIE, 9);
+    both_refuse("7: tie 10", with(with(blank(1), 3, "06"), 4, "31"), IMMT_REFUSED_TIE, 10);
+    both_refuse("7: tie 10, 1900", with(with(with(blank(4), 2, "1900"), 3, "02"), 4, "29"), IMMT_REFUSED_TIE, 10);
+    accepts("29 February 2000", with(with(with(blank(4), 2, "2000"), 3, "02"), 4, "29"));
+    accepts("29 February with no year", with(with(blank(4), 3, "02"), 4, "29"));
+    accepts("31 with no month", with(with(blank(3), 2, "2003"), 4, "31"));
     both_refuse("7: the lowest of two", with(with(blank(3), 93, "012"), 28, "0"), IMMT_REFUSED_TIE, 5);
+    both_refuse("7: 9 before 10", with(with(with(blank(3), 3, "06"), 4, "31"), 93, "012"), IMMT_REFUSED_TIE, 9);
 }
 
 static void refusals_8_and_9(void)

@@ -50,7 +50,7 @@ enum immt_refusal {
     IMMT_REFUSED_VERSION = 4,        /* column 111, the edition, is not 1, 3 or 4         place 111 */
     IMMT_REFUSED_EDITION_LENGTH = 5, /* the length is not that edition's                  place 0 */
     IMMT_REFUSED_ELEMENT = 6,        /* an element is neither blank nor legal             the lowest such element */
-    IMMT_REFUSED_TIE = 7,            /* elements do not go together                       the lowest broken tie, 1..9 */
+    IMMT_REFUSED_TIE = 7,            /* elements do not go together                       the lowest broken tie, 1..10 */
     IMMT_REFUSED_EDITION = 8,        /* the edition asked for is not 1, 3 or 4            place 0 */
     IMMT_REFUSED_ROOM = 9            /* the buffer is shorter than the edition asked for  place 0 */
 };

@@ -3,8 +3,8 @@
  *
  * Requests come on standard input and answers go to standard output, in the protocol that src/calls.rs describes, so that what this program
  * writes can be held byte for byte against what `peer calls` writes. It judges no record itself: it takes a line apart, lends the memory,
- * makes the call and prints what came back. Link it with libdesk.a (check and recast: the calls that a host makes) and libtrial.a (the
- * others), which `rt staticlib desk` and `rt staticlib trial` write.
+ * makes the call, or one for every date of a year, and prints what came back. Link it with libdesk.a (check and recast: the calls that a
+ * host makes) and libtrial.a (the others), which `rt staticlib desk` and `rt staticlib trial` write.
  *
  * One thing of the protocol does not come from a call: where the call sign stands. The proved call shows a part of the caller's own record,
  * which a function for C cannot return, so trial_show copies it. PLACE is 72 where the record has the copied bytes there, and 0 elsewhere.
@@ -24,6 +24,8 @@ uint64_t trial_write(const uint64_t *numbers, size_t number_count, const int64_t
                      uint8_t *buffer, size_t room, uint64_t *place);
 
 enum { ELEMENTS = 101, PARTS = 4, MOST_ROOM = 4096, GUARD = 16, CALL_SIGN_COLUMN = 72, PIECE = 1 << 16 };
+
+enum { YEAR_COLUMN = 2, YEAR_WIDTH = 4, MONTH_COLUMN = 6, DAY_COLUMN = 8, VERSION_COLUMN = 111, CALENDAR_TIE = 10 };
 
 enum { MISSING, CODE, TEXT, AMOUNT, PLACE };
 
@@ -396,6 +398,48 @@ static int call(struct part request, struct answer *answer)
     return 1;
 }
 
+static void put_two_digits(uint8_t *at, int number)
+{
+    at[0] = (uint8_t)(number == 0 ? ' ' : '0' + number / 10);
+    at[1] = (uint8_t)(number == 0 ? ' ' : '0' + number % 10);
+}
+
+/* Checks every day of every month of the year that a request asks for, and puts a character for each; false where it asks for none. */
+static int calendar(struct part request, struct bytes *output)
+{
+    const uint64_t unset = UINT64_MAX;
+    struct fields fields = {request, 1};
+    struct part name, year;
+    uint64_t edition, number, place;
+    uint8_t record[IMMT_LENGTH_MOST];
+    next(&fields, &name);
+    if (!is(name, "d") || !next_number(&fields, &edition) || !next(&fields, &year) || fields.more)
+        return 0;
+    if (edition != 1 && edition != 3 && edition != 4)
+        return 0;
+    size_t length = edition == 1 ? IMMT_LENGTH_1 : edition == 3 ? IMMT_LENGTH_3 : IMMT_LENGTH_4;
+    memset(record, ' ', length);
+    record[0] = '3';
+    record[VERSION_COLUMN - 1] = (uint8_t)('0' + edition);
+    if (!is(year, "-")) {
+        if (year.end - year.at != YEAR_WIDTH || !number_of(year, &number))
+            return 0;
+        memcpy(record + YEAR_COLUMN - 1, year.at, YEAR_WIDTH);
+    }
+    for (int month = 0; month <= 12; month++) {
+        put_two_digits(record + MONTH_COLUMN - 1, month);
+        if (month > 0)
+            put_text(output, " ");
+        for (int day = 0; day <= 31; day++) {
+            put_two_digits(record + DAY_COLUMN - 1, day);
+            place = unset;
+            number = immt_check(record, length, &place);
+            put_text(output, number == 0 && place == 0 ? "." : number == IMMT_REFUSED_TIE && place == CALENDAR_TIE ? "x" : "?");
+        }
+    }
+    return 1;
+}
+
 static void flush(struct bytes *output)
 {
     if (output->length > 0 && fwrite(output->at, 1, output->length, stdout) != output->length)
@@ -408,7 +452,7 @@ static void respond(struct bytes *output, struct part request)
     struct answer answer;
     if (call(request, &answer))
         put_answer(output, &answer);
-    else
+    else if (!calendar(request, output))
         put_text(output, "?");
     put_text(output, "\n");
     if (output->length >= PIECE)

@@ -13,6 +13,7 @@ use std::rc::Rc;
 use std::time::Instant;
 
 use peer::layout::Edition;
+use peer::plain::last_day;
 use peer::trial::{self, Chance, Limits};
 
 extern "C" {
@@ -76,11 +77,24 @@ fn their_recast(record: &[u8], edition: u64, buffer: &mut [u8]) -> Numbers {
     (answer.number, answer.place, answer.lost[0], answer.lost[1])
 }
 
+/// Dates the record, every day of a century as often as another: trial records favour the ends of months, and a ship does not.
+fn date(chance: &mut Chance, record: &mut [u8]) {
+    loop {
+        let [year, month, day] =
+            [(1925, 100), (1, 12), (1, 31)].map(|(first, count)| first + chance.below(count) as u64);
+        if day <= last_day(Some(year), Some(month)) {
+            record[1..9].copy_from_slice(format!("{year}{month:02}{day:02}").as_bytes());
+            return;
+        }
+    }
+}
+
 /// Records of an edition as a ship fills them; one in `damaged` has a wrong column.
 fn records(chance: &mut Chance, limits: &Limits, edition: Edition, count: usize, damaged: usize) -> Vec<Vec<u8>> {
     (0..count)
         .map(|_| {
             let mut record = trial::typical(chance, limits, edition, 6);
+            date(chance, &mut record);
             if damaged != 0 && chance.one_in(damaged) {
                 let column = chance.below(record.len());
                 record[column] = b'?';

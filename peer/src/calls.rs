@@ -10,14 +10,15 @@
 //! | `s RECORD` | show the call sign |
 //! | `t EDITION ROOM RECORD` | recast to an edition into a lent buffer of so many bytes |
 //! | `w EDITION ROOM READINGS` | write from 101 readings into a lent buffer of so many bytes |
+//! | `d EDITION YEAR` | check, for every day of every month of a year |
 //!
 //! EDITION and ELEMENT are whole numbers from 0 to 2^64 - 1 in decimal, ROOM one from 0 to 4096. RECORD is the bytes in
 //! hexadecimal, two lower-case digits each, or `-` where there is none. READINGS are fields of the form `ELEMENT=READING`
 //! for the elements that are not missing, or `-` where all are; a reading is `cVALUE` (code), `tVALUE` (text),
 //! `aVALUE:KIND` (amount; KIND is `m` measured, `c` computed, `im` iced measured, `ic` iced computed) or
-//! `pLATITUDE:LONGITUDE:DIGIT` (place).
+//! `pLATITUDE:LONGITUDE:DIGIT` (place). For `d` EDITION is 1, 3 or 4, and YEAR is four digits, or `-` for a blank year.
 //!
-//! One answer a line, always six parts parted by one blank:
+//! One answer a line, always six parts parted by one blank but for `d`:
 //!
 //! `NUMBER PLACE LOW HIGH BUFFER READING`
 //!
@@ -27,10 +28,15 @@
 //! guard bytes beyond them, byte I (from 0) of both having been 128 + I mod 128 before the call. For `s` it is the bytes
 //! shown (`-` where none), and PLACE is then the column where they begin in the caller's own record (0 where none);
 //! NUMBER, LOW and HIGH are 0. A request that is none of these is answered with `?`.
+//!
+//! The answer to `d` is thirteen parts parted by one blank, one for the blank month and each month from 01, of 32 characters
+//! each, one for the blank day and each day from 01. The record that is checked is one of the edition with 3 in column 1, the
+//! year, that month and that day, blank elsewhere. The character is `.` where it is accepted, `x` where the answer is refusal
+//! 7 at place 10, and `?` where it is any other.
 
 use std::io::{self, BufRead, Write};
 
-use crate::layout::ELEMENTS;
+use crate::layout::{span, Edition, ELEMENTS};
 use crate::reading::{Kind, Place, Reading};
 use crate::report::{put_number, put_reading};
 use crate::Answer;
@@ -46,6 +52,8 @@ pub enum Call {
     Show(Vec<u8>),
     Recast(u64, usize, Vec<u8>),
     Write(u64, usize, Box<[Reading; ELEMENTS]>),
+    /// The year as its columns hold it.
+    Calendar(Edition, [u8; 4]),
 }
 
 fn put_bytes(output: &mut Vec<u8>, bytes: &[u8]) {
@@ -95,6 +103,14 @@ fn signed_of(field: &str) -> Option<i64> {
 
 fn room_of(field: &str) -> Option<usize> {
     number_of(field).filter(|&room| room <= MOST_ROOM as u64).map(|room| room as usize)
+}
+
+/// The columns of a year: four digits, or blanks for `-`.
+fn year_of(field: &str) -> Option<[u8; 4]> {
+    if field == "-" {
+        return Some(*b"    ");
+    }
+    field.as_bytes().try_into().ok().filter(|year: &[u8; 4]| year.iter().all(u8::is_ascii_digit))
 }
 
 fn reading_of(field: &str) -> Option<Reading> {
@@ -153,6 +169,7 @@ impl Call {
                 let room = room_of(fields.next()?)?;
                 Call::Write(edition, room, readings_of(fields.by_ref())?)
             }
+            "d" => Call::Calendar(Edition::from_number(number_of(fields.next()?)?)?, year_of(fields.next()?)?),
             _ => return None,
         };
         fields.next().is_none().then_some(call)
@@ -213,6 +230,10 @@ impl Call {
                 }
                 output.extend_from_slice(fields.join(" ").as_bytes());
             }
+            Call::Calendar(edition, year) => {
+                numbers(output, b'd', &[edition.number()]);
+                output.extend_from_slice(if year == b"    " { b"-" } else { year });
+            }
         }
         output.push(b'\n');
     }
@@ -241,6 +262,7 @@ impl Call {
                 let answer = crate::write(*edition, readings, &mut memory[..*room]);
                 put_answer(output, answer, &memory);
             }
+            Call::Calendar(edition, year) => put_calendar(output, *edition, year),
         }
     }
 }
@@ -263,6 +285,34 @@ fn put_answer(output: &mut Vec<u8>, answer: Answer, buffer: &[u8]) {
     output.push(b' ');
     put_reading(output, answer.reading);
     output.push(b'\n');
+}
+
+/// Two digits, or two blanks for 0.
+fn two_digits(number: u8) -> [u8; 2] {
+    match number {
+        0 => *b"  ",
+        _ => [b'0' + number / 10, b'0' + number % 10],
+    }
+}
+
+fn put_calendar(output: &mut Vec<u8>, edition: Edition, year: &[u8; 4]) {
+    let mut record = vec![b' '; edition.length()];
+    record[0] = b'3';
+    record[110] = edition.digit();
+    record[span(2)].copy_from_slice(year);
+    for month in 0..=12 {
+        record[span(3)].copy_from_slice(&two_digits(month));
+        for day in 0..=31 {
+            record[span(4)].copy_from_slice(&two_digits(day));
+            let answer = crate::check(&record);
+            output.push(match (answer.number, answer.place) {
+                (0, 0) => b'.',
+                (7, 10) => b'x',
+                _ => b'?',
+            });
+        }
+        output.push(if month < 12 { b' ' } else { b'\n' });
+    }
 }
 
 /// Answers every request of the input.

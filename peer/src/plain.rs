@@ -98,11 +98,31 @@ pub fn legal(edition: Edition, element: usize, text: &[u8]) -> bool {
 /// The sign elements of the four temperatures, air, dew point, sea and wet bulb; each value is the next element.
 pub const SIGNS: [usize; 4] = [16, 18, 28, 50];
 
+/// How many ties there are; they are numbered from 1.
+pub const TIES: usize = 10;
+
 /// Whether an octant may stand with the digits of a longitude (tie 2).
 pub const fn octant_holds(octant: u8, longitude: u64) -> bool {
     match octant {
         b'0' | b'3' | b'5' | b'8' => longitude <= 900,
         _ => longitude >= 900,
+    }
+}
+
+/// Whether February has a 29th in a year of the Gregorian calendar, which here reaches back to year 0.
+fn leap(year: u64) -> bool {
+    year.is_multiple_of(4) && (!year.is_multiple_of(100) || year.is_multiple_of(400))
+}
+
+/// The last day that a month may have in a year (tie 10): the widest where the year or the month is blank.
+pub fn last_day(year: Option<u64>, month: Option<u64>) -> u64 {
+    match month {
+        Some(4 | 6 | 9 | 11) => 30,
+        Some(2) => match year {
+            Some(year) if !leap(year) => 28,
+            _ => 29,
+        },
+        _ => 31,
     }
 }
 
@@ -143,6 +163,10 @@ pub fn broken_tie(edition: Edition, record: &[u8]) -> Option<u64> {
     }
     if edition != Edition::One && there(93) && !there(14) {
         return Some(9);
+    }
+    let date = |element: usize| number(text(record, element));
+    if date(4).is_some_and(|day| day > last_day(date(2), date(3))) {
+        return Some(10);
     }
     None
 }

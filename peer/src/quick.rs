@@ -242,6 +242,33 @@ fn outside(set: u32, byte: u8) -> bool {
     (set >> (byte & 15)) & 1 == 0
 }
 
+/// The last day of each month, 29 for February, by the lowest bit of the month's first digit and the lowest four of its
+/// second. A blank month is looked up where 00 would be, and may have 31 days.
+static LAST_DAYS: [u16; 32] = {
+    let mut days = [spelled(b"31") as u16; 32];
+    days[0x02] = spelled(b"29") as u16;
+    days[0x04] = spelled(b"30") as u16;
+    days[0x06] = spelled(b"30") as u16;
+    days[0x09] = spelled(b"30") as u16;
+    days[0x11] = spelled(b"30") as u16;
+    days
+};
+
+/// The last day that the month may have in its year, as bytes.
+#[inline(always)]
+fn last_day<const LENGTH: usize>(record: &[u8; LENGTH]) -> u16 {
+    let month = two(record, 6);
+    let last = LAST_DAYS[usize::from((month >> 4 & 16) | (month & 15))];
+    // A year is a leap year where its last two digits are a multiple of four, or the first two where the last are 00. Both
+    // are loaded, which spares a branch.
+    let (century, ending) = (two(record, 2), two(record, 4));
+    let pair = if ending == spelled(b"00") as u16 { century } else { ending };
+    // Ten times the first digit and twice it are the same to four. The bytes of 0 and of a blank are multiples of four
+    // themselves, so the bytes do for the digits, and a blank year passes as a leap year.
+    let common = (pair >> 7).wrapping_add(pair) & 3 != 0;
+    last - u16::from(common & (month == spelled(b"02") as u16))
+}
+
 /// The limits of numbers and the ties, for columns that hold what they may.
 #[inline(always)]
 fn numbers_broken<const LENGTH: usize>(record: &[u8; LENGTH], edition: Edition) -> bool {
@@ -250,7 +277,7 @@ fn numbers_broken<const LENGTH: usize>(record: &[u8; LENGTH], edition: Edition) 
     let month = two(record, 6);
     broken |= (month > spelled(b"12") as u16) | (month == spelled(b"00") as u16);
     let day = two(record, 8);
-    broken |= (day > spelled(b"31") as u16) | (day == spelled(b"00") as u16);
+    broken |= (day > last_day(record)) | (day == spelled(b"00") as u16);
     broken |= two(record, 10) > spelled(b"23") as u16;
 
     let longitude = four(record, 16);

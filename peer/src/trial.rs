@@ -2,7 +2,7 @@
 
 use crate::calls::Call;
 use crate::layout::{blank, span, text, width, Edition, ELEMENTS};
-use crate::plain::{legal, number, octant_holds, SIGNS};
+use crate::plain::{last_day, legal, number, octant_holds, SIGNS, TIES};
 use crate::reading::{group, Kind, Place, Reading};
 use crate::report::all_readings;
 
@@ -164,6 +164,32 @@ impl Default for Limits {
     }
 }
 
+/// Years about every rule of the calendar: common and leap ones, centuries that are the one and the other, the first and
+/// the last, and such as some calendars would have otherwise.
+const YEARS: [u64; 28] = [
+    0, 1, 3, 4, 96, 99, 100, 104, 200, 400, 1582, 1600, 1700, 1752, 1800, 1899, 1900, 1904, 1996, 2000, 2001, 2002,
+    2003, 2004, 2100, 2400, 9996, 9999,
+];
+/// February above all, whose end moves, and then the months of 30 days.
+const MONTHS: [u64; 23] = [2, 2, 2, 2, 2, 2, 2, 2, 4, 4, 6, 6, 9, 9, 11, 11, 1, 3, 5, 7, 8, 10, 12];
+/// About the ends of the months.
+const DAYS: [u64; 7] = [1, 27, 28, 29, 29, 30, 31];
+
+/// A year, a month and a day about the end of a month, which need not have the day; each is missing at times.
+fn date(chance: &mut Chance) -> [Option<u64>; 3] {
+    let [year, month, day] =
+        [&YEARS[..], &MONTHS, &DAYS].map(|values| (!chance.one_in(8)).then(|| chance.pick(values)));
+    // Half of the days are the month's last and the one beyond, as long as that is a day of any month.
+    let end = last_day(year, month) + chance.below(2) as u64;
+    [year, month, if chance.one_in(2) { day } else { day.map(|_| end.min(31)) }]
+}
+
+/// Lays a number out over the columns of an element, nought before.
+fn lay(record: &mut [u8], element: usize, value: u64) {
+    let width = width(element);
+    record[span(element)].copy_from_slice(format!("{value:0width$}").as_bytes());
+}
+
 /// Fills an element with some legal text.
 fn fill(chance: &mut Chance, limits: &Limits, edition: Edition, element: usize, record: &mut [u8]) {
     loop {
@@ -175,6 +201,9 @@ fn fill(chance: &mut Chance, limits: &Limits, edition: Edition, element: usize, 
             }
         } else {
             match element {
+                2 if chance.one_in(2) => lay(record, element, chance.pick(&YEARS)),
+                3 if chance.one_in(2) => lay(record, element, chance.pick(&MONTHS)),
+                4 if chance.one_in(2) => lay(record, element, chance.pick(&DAYS)),
                 42 => {
                     text.fill(b' ');
                     let length = 3 + chance.below(5);
@@ -241,6 +270,11 @@ fn mend(chance: &mut Chance, limits: &Limits, edition: Edition, record: &mut [u8
     let speed = there(record, 15) || (edition != Edition::One && there(record, 93));
     if speed && !there(record, 14) {
         fill(chance, limits, edition, 14, record);
+    }
+    let value = |element: usize| number(text(record, element));
+    let last = last_day(value(2), value(3));
+    if value(4).is_some_and(|day| day > last) {
+        lay(record, 4, last);
     }
 }
 
@@ -357,13 +391,21 @@ fn strain(chance: &mut Chance, limits: &Limits, edition: Edition, tie: usize, re
                 record[26] = b' ';
             }
         }
-        _ => {
+        9 => {
             record[span(15)].fill(b' ');
             if edition != Edition::One && !chance.one_in(4) {
                 fill(chance, limits, edition, 93, record);
             }
             if !chance.one_in(4) {
                 record[26] = b' ';
+            }
+        }
+        _ => {
+            for (element, value) in (2..).zip(date(chance)) {
+                match value {
+                    Some(value) => lay(record, element, value),
+                    None => record[span(element)].fill(b' '),
+                }
             }
         }
     }
@@ -380,7 +422,7 @@ pub fn record(chance: &mut Chance, limits: &Limits, family: Family) -> Vec<u8> {
         Family::Ties => {
             let mut record = base(chance, limits, edition);
             for _ in 0..=chance.below(2) {
-                let tie = 1 + chance.below(9);
+                let tie = 1 + chance.below(TIES);
                 strain(chance, limits, edition, tie, &mut record);
             }
             record
@@ -536,6 +578,11 @@ pub fn call(chance: &mut Chance, limits: &Limits, family: Family) -> Call {
                     2 => readings[13] = Reading::Missing,
                     _ => readings[14] = Reading::Missing,
                 }
+            }
+            if chance.one_in(8) {
+                // Tie 10, at times with one of those.
+                let date = date(chance).map(|value| value.map_or(Reading::Missing, Reading::Code));
+                readings[1..4].copy_from_slice(&date);
             }
             Call::Write(edition, room(chance), readings)
         }

@@ -2,7 +2,7 @@
 
 use peer::calls::Call;
 use peer::layout::{span, Edition, LONGEST};
-use peer::plain;
+use peer::plain::{self, TIES};
 use peer::recasting::plain_recast;
 use peer::report::all_readings;
 use peer::trial::{self, Chance, Family, Limits};
@@ -54,6 +54,90 @@ fn computed_tenths_come_often() {
             })
             .count();
         assert!(free > 400, "{family:?}: {free}");
+    }
+}
+
+#[test]
+fn the_ends_of_months_come_often() {
+    let limits = Limits::new();
+    let mut chance = Chance::new(78);
+    for family in [Family::Typical, Family::Ties] {
+        // The last days of months that have no 31st, those of February, its 29ths with a year and without, the 31sts of no
+        // month.
+        let mut counts = [0; 5];
+        for _ in 0..10_000 {
+            let mut record = trial::record(&mut chance, &limits, family);
+            if check(&record).number != 0 {
+                continue;
+            }
+            let year = plain::number(&record[span(2)]);
+            let date = record[span(3).start..span(4).end].to_vec();
+            counts[2] += usize::from(date == b"0229" && year.is_some());
+            counts[3] += usize::from(date == b"0229" && year.is_none());
+            counts[4] += usize::from(date == b"  31");
+            if let Some(day) = plain::number(&date[2..]) {
+                record[span(4)].copy_from_slice(format!("{:02}", day + 1).as_bytes());
+                let last = check(&record) == Answer::refused(7, 10);
+                counts[0] += usize::from(last);
+                counts[1] += usize::from(last && date.starts_with(b"02"));
+            }
+        }
+        assert!(counts[0] > 400 && counts[1..].iter().all(|&count| count > 30), "{family:?}: {counts:?}");
+    }
+}
+
+#[test]
+fn the_calendar_is_strained_and_hidden() {
+    let limits = Limits::new();
+    let mut chance = Chance::new(79);
+    // Records that a day decides alone, and such as break a lower tie too: any of them, and tie 9.
+    let (mut alone, mut hidden, mut behind_nine) = (0, 0, 0);
+    for _ in 0..50_000 {
+        let mut record = trial::record(&mut chance, &limits, Family::Ties);
+        let answer = check(&record);
+        if answer.number != 7 {
+            continue;
+        }
+        alone += usize::from(answer.place == 10);
+        // What the date alone is refused for, with nothing else left that could break a tie.
+        let version = record[110];
+        record[span(4).end..].fill(b' ');
+        record[110] = version;
+        let also = answer.place < 10 && check(&record) == Answer::refused(7, 10);
+        hidden += usize::from(also);
+        behind_nine += usize::from(also && answer.place == 9);
+    }
+    assert!(alone > 800 && hidden > 300 && behind_nine > 30, "{alone} {hidden} {behind_nine}");
+}
+
+/// Every date, with each of its parts blank too, by the quick pass and the plain rules.
+#[test]
+fn checks_agree_on_the_whole_calendar() {
+    let two = |number: u64| if number == 0 { "  ".to_string() } else { format!("{number:02}") };
+    let months: Vec<String> = (0..=12).map(two).collect();
+    let days: Vec<String> = (0..=31).map(two).collect();
+    for edition in Edition::ALL {
+        let mut record = vec![b' '; edition.length()];
+        record[0] = b'3';
+        record[110] = edition.digit();
+        let mut whole_dates = 0;
+        for year in (0..=9999).map(Some).chain([None]) {
+            let text = year.map_or("    ".to_string(), |year: u64| format!("{year:04}"));
+            record[span(2)].copy_from_slice(text.as_bytes());
+            for month in &months {
+                record[span(3)].copy_from_slice(month.as_bytes());
+                for day in &days {
+                    record[span(4)].copy_from_slice(day.as_bytes());
+                    let answer = plain::check(&record);
+                    assert_eq!(quick::accepted(&record), (answer.number == 0).then_some(edition));
+                    assert!(answer == Answer::done() || answer == Answer::refused(7, 10));
+                    let whole = year.is_some() && month != "  " && day != "  ";
+                    whole_dates += u64::from(whole && answer.number == 0);
+                }
+            }
+        }
+        // Four hundred years of the Gregorian calendar have 146097 days, wherever they begin.
+        assert_eq!(whole_dates, 25 * 146_097);
     }
 }
 
@@ -203,6 +287,7 @@ fn what_is_written_reads_as_what_was_given() {
     let limits = Limits::new();
     let mut chance = Chance::new(11);
     let mut counts = [0; 10];
+    let mut ties = [0; TIES + 1];
     for _ in 0..60_000 {
         let Call::Write(edition, room, readings) = trial::call(&mut chance, &limits, Family::Mixed) else {
             continue;
@@ -210,6 +295,7 @@ fn what_is_written_reads_as_what_was_given() {
         let mut buffer = vec![200; room];
         let answer = write(edition, &readings, &mut buffer);
         counts[answer.number as usize] += 1;
+        ties[if answer.number == 7 { answer.place as usize } else { 0 }] += 1;
         if answer.number == 0 {
             let length = Edition::from_number(edition).unwrap().length();
             assert!(all_readings(&buffer[..length]) == *readings);
@@ -221,14 +307,21 @@ fn what_is_written_reads_as_what_was_given() {
     for number in [0, 6, 7, 8, 9] {
         assert!(counts[number] > 100, "refusal {number} was tried {} times", counts[number]);
     }
+    // Ties 1 and 3 to 6 cannot be broken by readings.
+    for (tie, &count) in ties.iter().enumerate().skip(1) {
+        let never = matches!(tie, 1 | 3..=6);
+        assert!(never == (count == 0), "tie {tie}: {count}");
+    }
+    assert!(ties[TIES] > 50, "{ties:?}");
 }
 
 #[test]
 fn requests_are_read_as_they_were_asked() {
     let limits = Limits::new();
     let mut chance = Chance::new(12);
-    for _ in 0..5_000 {
-        let call = trial::call(&mut chance, &limits, Family::Mixed);
+    let calendars = [(Edition::One, *b"0000"), (Edition::Three, *b"    "), (Edition::Four, *b"9999")];
+    let calendars = calendars.into_iter().map(|(edition, year)| Call::Calendar(edition, year));
+    for call in (0..5_000).map(|_| trial::call(&mut chance, &limits, Family::Mixed)).chain(calendars) {
         let mut line = Vec::new();
         call.put_line(&mut line);
         let line = String::from_utf8(line).unwrap();
@@ -242,6 +335,11 @@ fn requests_are_read_as_they_were_asked() {
     {
         assert_eq!(Call::of_line(wrong), None, "{wrong}");
     }
+    for wrong in
+        ["d", "d 4", "d 4 ", "d 2 2000", "d 4 20000", "d 4 200", "d 4 200A", "d 4 +200", "d 4 2000 ", "d 4 - -"]
+    {
+        assert_eq!(Call::of_line(wrong), None, "{wrong}");
+    }
 }
 
 #[test]
@@ -250,7 +348,7 @@ fn every_refusal_and_every_tie_is_tried() {
     let mut chance = Chance::new(13);
     let mut numbers = [0; 8];
     let mut elements = [0; 102];
-    let mut ties = [0; 10];
+    let mut ties = [0; TIES + 1];
     for _ in 0..200_000 {
         let answer = check(&trial::record(&mut chance, &limits, Family::Mixed));
         numbers[answer.number as usize] += 1;

@@ -1,6 +1,8 @@
 //! The cases P1 to P12 of the document and the points that were settled beside it.
 
-use peer::layout::{span, LONGEST};
+use peer::layout::{span, text, LONGEST};
+use peer::plain::number;
+use peer::report::{readings_report, recast_report};
 use peer::{check, read, recast, show_call_sign, write, Answer, Edition, Kind, Place, Reading, ELEMENTS};
 
 /// A record of an edition with 3 in column 1, blank but for the texts at the columns.
@@ -94,6 +96,100 @@ fn computed_tenths() {
             assert_eq!((answer.number, answer.place), expected, "{kind:?} in element {sign}");
         }
     }
+}
+
+/// Dates as year, month and day stand in columns 2 to 9, and whether the day exists in its month.
+const DATES: [(&str, bool); 34] = [
+    ("20030630", true),
+    ("20030631", false),
+    ("    0430", true),
+    ("    0431", false),
+    ("    0931", false),
+    ("20001131", false),
+    ("20030131", true),
+    ("    1231", true),
+    ("20000229", true),
+    ("20000230", false),
+    ("00000229", true),
+    ("00000230", false),
+    ("    0229", true),
+    ("    0230", false),
+    ("    0231", false),
+    ("19000228", true),
+    ("19000229", false),
+    ("20030228", true),
+    ("20030229", false),
+    ("00040229", true),
+    ("00010229", false),
+    ("01000229", false),
+    ("04000229", true),
+    ("15000229", false),
+    ("16000229", true),
+    ("17000229", false),
+    ("19960229", true),
+    ("21000229", false),
+    ("24000229", true),
+    ("99960229", true),
+    ("99990229", false),
+    ("2003  31", true),
+    ("      31", true),
+    ("200302  ", true),
+];
+
+#[test]
+fn the_calendar() {
+    for edition in [1, 3, 4] {
+        for (date, exists) in DATES {
+            let expected = if exists { (0, 0) } else { (7, 10) };
+            let record = record(edition, &[(2, date)]);
+            assert_eq!(refusal(&record), expected, "{date}");
+            // Every call that checks goes by it.
+            let answer = read(&record, 4);
+            assert_eq!((answer.number, answer.place), expected, "{date}");
+            for to in [1, 3, 4] {
+                let mut buffer = [7; LONGEST];
+                let answer = recast(&record, to, &mut buffer);
+                assert_eq!((answer.number, answer.place), expected, "{date}");
+                assert_eq!(buffer.iter().all(|&byte| byte == 7), !exists);
+                if exists {
+                    assert_eq!(buffer[1..9], *date.as_bytes());
+                }
+            }
+            // A write from the numbers of the date does too.
+            let code = |element| number(text(&record, element)).map_or(Reading::Missing, Reading::Code);
+            let own = [(2, code(2)), (3, code(3)), (4, code(4))];
+            assert_eq!(written(edition, &own), expected, "{date}");
+        }
+    }
+}
+
+#[test]
+fn the_calendar_in_the_programs() {
+    let june = [record(4, &[(2, "20030631")]), record(4, &[(2, "20030630")])];
+    let mut output = Vec::new();
+    recast_report(&mut &[&b"3"[..], &june[0], &june[1]].join(&b'\n')[..], &mut output).unwrap();
+    assert_eq!(output, b"recast to 3\n1 refused 7 10\n2 ok 0\nrecords 2 refused 1\n");
+    output.clear();
+    readings_report(&mut &june[0][..], &mut output).unwrap();
+    assert_eq!(output, b"1 refused 7 10\nrecords 1 refused 1\n");
+}
+
+#[test]
+fn the_calendar_is_the_last_tie() {
+    let date = (2, "20030631");
+    assert_eq!(refusal(&record(4, &[date, (149, "010")])), (7, 9));
+    assert_eq!(refusal(&record(4, &[date, (28, "10")])), (7, 8));
+    assert_eq!(refusal(&record(4, &[date, (1, "4"), (30, "0234")])), (7, 7));
+    assert_eq!(refusal(&record(1, &[date, (12, "30650901")])), (7, 2));
+    // A day or a month that is none at all is the element's.
+    assert_eq!(refusal(&record(4, &[(2, "20030632")])), (6, 4));
+    assert_eq!(refusal(&record(4, &[(2, "20031331")])), (6, 3));
+    assert_eq!(refusal(&record(4, &[date, (20, "9")])), (6, 9));
+    let june = [(2, Reading::Code(2003)), (3, Reading::Code(6)), (4, Reading::Code(31))];
+    assert_eq!(written(4, &[&june[..], &[(93, Reading::Code(10))]].concat()), (7, 9));
+    assert_eq!(written(4, &[&june[..], &[(14, Reading::Code(0)), (93, Reading::Code(10))]].concat()), (7, 10));
+    // The room comes after the ties.
+    assert_eq!(write(4, &readings(4, &june), &mut []), Answer::refused(7, 10));
 }
 
 #[test]

@@ -1,6 +1,7 @@
 -- The worked cases P1 to P12 of document 01 and those of the requests, proved together over a single list: antt computes what the calls' own definitions answer.
 -- Assumes nothing.
 use mathlib.Core.Path.{_≡_, refl}
+use Prim.Native.Nat.{ℕ}
 use mathlib.Core.List.{List, [], _∷_, map}
 use lib.IntN.{pos, negsuc}
 use Rattle.text.specs.First.{firstFrom}
@@ -8,9 +9,10 @@ use Rattle.text.specs.Bytes.{every, valueFrom, run}
 use Rattle.text.specs.Texts.{allows}
 use Rattle.numerals.specs.Spelling.{spelled}
 use Rattle.losses.specs.Losses.{elements, word, lossesOf, hasLoss}
+use Rattle.calendar.specs.Calendar.{leaps, lastDay}
 use Rattle.layout.specs.Page.{element, page, columns, startOf, textOf, legal}
 use Rattle.layout.specs.Records.{rowFrom, recordFrom}
-use Rattle.ties.specs.Ties.{placeTie, octantFits, octantTie, signTie, lastDigit, digitTie, windTie, tie, firstBroken}
+use Rattle.ties.specs.Ties.{placeTie, octantFits, octantTie, signTie, lastDigit, digitTie, windTie, latestDay, dayTie, tie, firstBroken}
 use Rattle.checking.specs.Check.{column, checkedIn, checked}
 use Rattle.reading.specs.declared.Kind.{Kind}
 use Rattle.reading.specs.declared.Kind.the-variants.{Measured, Computed}
@@ -75,6 +77,10 @@ c gives r = record { asked = c; answered = r }
 abbrev pub dew-point : Kind → List Reading
 dew-point kind = said 18 (Amount (pos 123) kind) (said 19 (Amount (pos 123) kind) (of-edition 4 4))
 
+-- the readings of a record with a day of June and no year
+abbrev pub day-of-June : ℕ → List Reading
+day-of-June day = said 3 (Code 6) (said 4 (Code day) (of-edition 3 4))
+
 abbrev pub worked : List Worked
 worked =
     -- P1: edition 4, `3 065 0795`, to 1: octant 8, no loss
@@ -132,6 +138,30 @@ worked =
     -- a write goes by the kind of the reading
     (write 4 (dew-point Computed) gives puts (at 34 "5123" halves)) ∷
     (write 4 (dew-point Measured) gives unwritten 7 7) ∷
+    -- R-3: 31 June is refusal 7 place 10 in every edition, 30 June is accepted
+    (check (at 2 "20030631" edition1) gives refused 7 10) ∷
+    (check (at 2 "20030631" edition3) gives refused 7 10) ∷
+    (check (at 2 "20030631" edition4) gives refused 7 10) ∷
+    (check (at 2 "20030630" edition4) gives accepted) ∷
+    -- 29 February of 2000, of 0000 and with no year is accepted, of 1900 and 2003 refused
+    (check (at 2 "20000229" edition4) gives accepted) ∷
+    (check (at 2 "00000229" edition4) gives accepted) ∷
+    (check (at 2 "    0229" edition4) gives accepted) ∷
+    (check (at 2 "19000229" edition4) gives refused 7 10) ∷
+    (check (at 2 "20030229" edition4) gives refused 7 10) ∷
+    -- with no year, 30 February and 31 April are refused; with no month 31 is accepted, and so is a blank day
+    (check (at 2 "    0230" edition4) gives refused 7 10) ∷
+    (check (at 2 "    0431" edition4) gives refused 7 10) ∷
+    (check (at 2 "2003  31" edition4) gives accepted) ∷
+    (check (at 2 "      31" edition4) gives accepted) ∷
+    (check (at 2 "200302  " edition4) gives accepted) ∷
+    -- a record that breaks tie 9 and tie 10 answers 9
+    (check (at 149 "012" (at 2 "20030631" edition4)) gives refused 7 9) ∷
+    -- write and recast go by it too
+    (write 4 (day-of-June 31) gives unwritten 7 10) ∷
+    (write 4 (day-of-June 30) gives puts (at 6 "0630" edition4)) ∷
+    (recast 1 (at 2 "20030631" edition4) gives unwritten 7 10) ∷
+    (recast 1 (at 2 "20000229" edition4) gives recastAs [] (at 2 "20000229" edition1)) ∷
     []
 
 abbrev pub cases : List Case
@@ -141,5 +171,5 @@ abbrev pub answers : List Result
 answers = map (λ w. w .answered) worked
 
 pub worked-cases : map answer cases ≡ answers
-unfolding answer lent at edition1 edition3 edition4 bytesOf spelled checked checkedIn column legal allows every valueFrom run textOf startOf columns element page tie firstBroken firstFrom octantTie octantFits placeTie signTie digitTie lastDigit windTie readAfter itemOf plain temperature south west recastAfter recastTo recastIn lossesOf word elements hasLoss keeps lostText senseOf platformSense hemisphere lowestDigit suits leftAfter leftTo filledBy recastRecord recordFrom rowFrom recastText widened Written.writtenAs Written.writtenIn Written.afterAs Written.filledBy Written.writes recordOf numeralFor amountNumeral placeNumeral same partsOf placeOf departure missing said
+unfolding answer lent at edition1 edition3 edition4 bytesOf spelled checked checkedIn column legal allows every valueFrom run textOf startOf columns element page tie firstBroken firstFrom octantTie octantFits placeTie signTie digitTie lastDigit windTie dayTie latestDay leaps lastDay readAfter itemOf plain temperature south west recastAfter recastTo recastIn lossesOf word elements hasLoss keeps lostText senseOf platformSense hemisphere lowestDigit suits leftAfter leftTo filledBy recastRecord recordFrom rowFrom recastText widened Written.writtenAs Written.writtenIn Written.afterAs Written.filledBy Written.writes recordOf numeralFor amountNumeral placeNumeral same partsOf placeOf departure missing said
 worked-cases = refl

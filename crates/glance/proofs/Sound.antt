@@ -27,4 +27,4 @@ surely-sound ed xs full named s a o r =
     let cols = cover ed xs s o in
     let nums = join _ dates _ (a .0) (join _ places _ (a .1 .0) (join _ winds falls (a .1 .1 .0) (a .1 .1 .1 .0))) in
     let all = lawful ed xs full named cols nums (a .1 .1 .1 .1 .0) r in
-    record { full = full; lawful = all; tied = tied ed xs full cols all (a .1 .1 .1 .1 .1) r }
+    record { full = full; lawful = all; tied = tied ed xs full cols all (a .1 .1 .1 .1 .1 .0) (a .1 .1 .1 .1 .1 .1) r }

@@ -11,7 +11,7 @@ use Rattle.layout.specs.declared.Edition.the-variants.{One, Three, Four}
 use Rattle.layout.specs.Editions.{lengthOf, lastOf}
 use Rattle.layout.specs.Page.{legal}
 use Rattle.ties.specs.Ties.{tie}
-use Rattle.glance.specs.Tests.{neither, lastHighest, plusZero, topDigit, halfDigit, lastFits, needs, octantNear}
+use Rattle.glance.specs.Tests.{neither, lastHighest, plusZero, topDigit, halfDigit, lastFits, needs, octantNear, common}
 use Rattle.glance.specs.Limits.{Limited}
 
 -- what makes a text a record of the edition
@@ -59,9 +59,13 @@ Degrees xs s = Temperature xs s (topDigit (getD xs 0 0)) (halfDigit (getD xs 0 0
 abbrev pub Temperatures : List ℕ → Type 0
 Temperatures xs = (Degrees xs 29 × Degrees xs 33) × (Degrees xs 49 × Degrees xs 88)
 
+-- the month has the day in every year
+abbrev pub InEveryYear : List ℕ → Type 0
+InEveryYear xs = common (word (take 2 (drop 5 xs))) (word (take 2 (drop 7 xs))) ≡ true
+
 -- what all editions ask alike, and what each asks besides
 abbrev pub Alike : List ℕ → Type 0
-Alike xs = Limits dates xs × (Limits places xs × (Limits winds xs × (Limits falls xs × (Codes xs × Temperatures xs))))
+Alike xs = Limits dates xs × (Limits places xs × (Limits winds xs × (Limits falls xs × (Codes xs × (Temperatures xs × InEveryYear xs)))))
 
 abbrev pub Later : List ℕ → Type 0
 Later xs = Limits courses xs × ((neither 50 54 (getD xs 11 0) ≡ true) × (needs (getD xs 148 0) (getD xs 26 0) ≡ true))

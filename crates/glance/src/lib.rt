@@ -19,8 +19,8 @@ ghost use Rattle.text.specs.Bytes.{word};
 ghost use Rattle.faults.specs.Faults.{no};
 ghost use Rattle.layout.specs.declared.Named.the-variants.{Known};
 ghost use Rattle.layout.specs.Editions.{editionOf, lengthOf};
-ghost use Rattle.glance.specs.Tests.{inLimit, neither, lastHighest, plusZero, topDigit, halfDigit, needs, octantNear};
-ghost use Rattle.glance.specs.Sure.{dates, places, winds, falls, courses, Limits, Codes, Temperature, Temperatures, Alike, Rest, Sure};
+ghost use Rattle.glance.specs.Tests.{inLimit, neither, lastHighest, plusZero, topDigit, halfDigit, needs, octantNear, common};
+ghost use Rattle.glance.specs.Sure.{dates, places, winds, falls, courses, Limits, Codes, Temperature, Temperatures, InEveryYear, Alike, Rest, Sure};
 
 // A byte as a number.
 fn wide(b: u8) -> u32
@@ -242,14 +242,35 @@ fn rest(edition: Edition, line: &[u8]) -> u8
     }
 }
 
-// What all editions ask alike of their numbers, their codes and their temperatures.
+// Is it a day that not every year has in that month: in February from the 29th on, in April, June,
+// September and November the 31st? A leap day is left to a closer look.
+fn rare(month: u32, day: u32) -> u8
+    ensures { λ r. ⌜ r ≡ no (common month day) ⌝ }
+{
+    above(day, 0x3238)
+        & (same(month, 0x3032)
+            | (above(day, 0x3330)
+                & ((same(month, 0x3034) | same(month, 0x3036))
+                    | (same(month, 0x3039) | same(month, 0x3131)))))
+}
+
+// The same of the record's own.
+fn day_off(line: &[u8]) -> u8
+    requires { ⌜ 131 ≤ length (now line) ⌝ }
+    ensures { λ z. ⌜ (z ≡ 0 → InEveryYear (now (line .entry))) ⌝ }
+{
+    rare(two(line, 5), two(line, 7))
+}
+
+// What all editions ask alike of their numbers, their codes, their temperatures and their day.
 fn alike(line: &[u8]) -> u8
     requires { ⌜ 131 ≤ length (now line) ⌝ }
     ensures { λ z. ⌜ (z ≡ 0 → Alike (now (line .entry))) ⌝ }
 {
     dates_off(line)
         | (places_off(line)
-            | (winds_off(line) | (falls_off(line) | (codes_off(line) | temperatures(line)))))
+            | (winds_off(line)
+                | (falls_off(line) | (codes_off(line) | (temperatures(line) | day_off(line))))))
 }
 
 // Is a record of this length and this column 111 surely accepted?

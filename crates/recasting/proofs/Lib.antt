@@ -1,4 +1,4 @@
--- The laws that the functions of this crate cite, and the promises of demand 3.
+-- The laws that the functions of this crate cite, and the promises of demand 3 and of request 3.
 pub mod PlaceLaws
 pub mod WidenLaws
 pub mod FillLaws
@@ -13,3 +13,4 @@ pub mod Demand3Meaning
 pub mod Demand3Losses
 pub mod FitLaws
 pub mod Demand3Outcomes
+pub mod Request3Dates

@@ -2,3 +2,5 @@
 pub mod TieLaws
 pub mod Together
 pub mod Looks
+pub mod Days
+pub mod Request3Days

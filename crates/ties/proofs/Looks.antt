@@ -11,7 +11,7 @@ use Rattle.text.proofs.Below.{everyBelow, passes-below}
 use Rattle.text.proofs.Ways.{and-first, and-second, decide}
 use Rattle.layout.specs.declared.Edition.{Edition}
 use Rattle.layout.specs.Page.{textOf}
-use Rattle.ties.specs.Ties.{placeTie, octantTie, signTie, digitTie, windTie, ties, tie}
+use Rattle.ties.specs.Ties.{placeTie, octantTie, signTie, digitTie, windTie, dayTie, ties, tie}
 
 -- the elements of each tie, from the first on
 abbrev pub looks : List (List ℕ)
@@ -25,6 +25,7 @@ looks =
     (1 ∷ 17 ∷ 18 ∷ 19 ∷ 29 ∷ 50 ∷ 51 ∷ []) ∷
     (15 ∷ 14 ∷ []) ∷
     (93 ∷ 14 ∷ []) ∷
+    (2 ∷ 3 ∷ 4 ∷ []) ∷
     []
 
 abbrev pub elementsOf : ℕ → List ℕ
@@ -69,6 +70,7 @@ module _ (ed : Edition) (xs ys : List ℕ) where
       digits then
       two windTie then
       two windTie then
+      three dayTie then
       last
 
   -- where the texts of certain elements are the same, so is each tie that looks at no others

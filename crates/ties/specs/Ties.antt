@@ -7,6 +7,7 @@ use lib.ListN.{length, getD}
 use Rattle.text.specs.Bytes.{blank, number}
 use Rattle.text.specs.Texts.{among}
 use Rattle.text.specs.First.{firstOf}
+use Rattle.calendar.specs.Calendar.{leaps, lastDay}
 use Rattle.layout.specs.declared.Edition.{Edition}
 use Rattle.layout.specs.declared.Edition.the-variants.{One, Three, Four}
 use Rattle.layout.specs.Page.{textOf}
@@ -54,6 +55,17 @@ digitTie format air dewSign dewPoint sea wetSign wetBulb =
 unfoldable pub windTie : List ℕ → List ℕ → Bool
 windTie speed indicator = blank speed || there indicator
 
+-- 10. a day its month lacks: the latest that may stand is the last of the month in its year. Where the year is blank the month's widest day stays allowed, where the
+-- month is blank 31
+abbrev pub mayLeap : List ℕ → Bool
+mayLeap year = blank year || leaps (number year)
+
+unfoldable pub latestDay : List ℕ → List ℕ → ℕ
+latestDay year month = cond (blank month) 31 (lastDay (mayLeap year) (number month))
+
+unfoldable pub dayTie : List ℕ → List ℕ → List ℕ → Bool
+dayTie year month day = blank day || leb (number day) (latestDay year month)
+
 -- the ties of a record, from the first on: how many there are is said here and nowhere else
 abbrev pub ties : Edition → List ℕ → List Bool
 ties ed xs =
@@ -66,6 +78,7 @@ ties ed xs =
     digitTie (textOf 1 xs) (textOf 17 xs) (textOf 18 xs) (textOf 19 xs) (textOf 29 xs) (textOf 50 xs) (textOf 51 xs) ∷
     windTie (textOf 15 xs) (textOf 14 xs) ∷
     windTie (textOf 93 xs) (textOf 14 xs) ∷
+    dayTie (textOf 2 xs) (textOf 3 xs) (textOf 4 xs) ∷
     []
 
 -- a tie by its number, from 1 on; at 0 and past the last there is none to break

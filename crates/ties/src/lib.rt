@@ -1,7 +1,7 @@
 // The ties between elements.
 //
-// Each tie is a test of the texts of its elements. `holds` hands it their columns; tie 7, which looks at
-// many, takes them itself. Columns that a record does not have are taken as blank, so no tie asks how long
+// Each tie is a test of the texts of its elements. `holds` hands it their columns; ties 7 and 10, which
+// look at many, take them themselves. Columns that a record does not have are taken as blank, so no tie asks how long
 // the record is.
 use layout::Edition;
 use layout::page;
@@ -148,8 +148,19 @@ fn wind_tie(speed: &[u8], indicator: &[u8]) -> bool
     text::is_blank(speed) || is_there(indicator)
 }
 
+// Tie 10, which is the same in every edition. What is blank says 0: the year 0 is a leap year, a month 0
+// is none of the shorter ones, and a day 0 is past none.
+fn day_tie(line: &[u8]) -> bool
+    ensures { λ r. ⌜ ((ed : Edition) → r ≡ tie ed (now (line .entry)) 10) ⌝ }
+{
+    let year = text::number_of(page::columns(line, 1, 4));
+    let month = text::number_of(page::columns(line, 5, 2));
+    let day = text::number_of(page::columns(line, 7, 2));
+    day <= calendar::last_day(calendar::is_leap(year), month)
+}
+
 // The number of the last tie.
-const LAST: usize = 9;
+const LAST: usize = 10;
 
 // Does tie k hold?
 fn holds(edition: Edition, line: &[u8], k: usize) -> bool
@@ -173,6 +184,7 @@ fn holds(edition: Edition, line: &[u8], k: usize) -> bool
         7 => digit_tie(line),
         8 => wind_tie(page::columns(line, 27, 2), page::columns(line, 26, 1)),
         9 => wind_tie(page::columns(line, 148, 3), page::columns(line, 26, 1)),
+        10 => day_tie(line),
         _ => true,
     }
 }

@@ -40,7 +40,7 @@ abbrev pub within-readings : ℕ → Bool
 within-readings k = eqb k 1 || among 3 4 5 6 k
 
 abbrev pub between-readings : List ℕ
-between-readings = 2 ∷ 7 ∷ 8 ∷ 9 ∷ []
+between-readings = 2 ∷ 7 ∷ 8 ∷ 9 ∷ 10 ∷ []
 
 -- a sign and a temperature that are spelled from what they read as
 module _ (ed : Edition) (e f : ℕ) (s v : List ℕ) (g : among 16 18 28 50 e ≡ true) (one : widthOf e ≡ 1) (three : widthOf f ≡ 3)

@@ -8,11 +8,12 @@ use Rattle.text.specs.First.{firstFrom}
 use Rattle.text.specs.Bytes.{every, valueFrom}
 use Rattle.text.specs.Texts.{allows}
 use Rattle.numerals.specs.Spelling.{spelled}
+use Rattle.calendar.specs.Calendar.{leaps, lastDay}
 use Rattle.layout.specs.declared.Edition.the-variants.{One, Three, Four}
 use Rattle.layout.specs.declared.Refusal.the-variants.{Broken}
 use Rattle.layout.specs.Page.{element, page, columns, startOf, textOf, legal}
 use Rattle.layout.specs.Records.{rowFrom, recordFrom}
-use Rattle.ties.specs.Ties.{placeTie, octantFits, octantTie, signTie, lastDigit, digitTie, windTie, tie, firstBroken}
+use Rattle.ties.specs.Ties.{placeTie, octantFits, octantTie, signTie, lastDigit, digitTie, windTie, latestDay, dayTie, tie, firstBroken}
 use Rattle.reading.specs.declared.Kind.the-variants.{Measured}
 use Rattle.reading.specs.declared.Reading.{Reading}
 use Rattle.reading.specs.declared.Reading.the-variants.{Missing, Code, Amount, At}
@@ -48,9 +49,11 @@ broken-each =
     -- a wind speed, and a relative one, with no word of how it was measured
     writtenIn Four (said 15 (Code 5) (of-edition 3 4)) 159 ∷
     writtenIn Four (said 93 (Code 5) (of-edition 3 4)) 159 ∷
+    -- a 31st of June
+    writtenIn Four (said 3 (Code 6) (said 4 (Code 31) (of-edition 3 4))) 159 ∷
     []
 
 -- each of those ties can be broken
 pub breaks-each : broken-each ≡ map (λ k. Unwritten (Broken k)) between-readings
-unfolding writtenIn missing said recordOf recordFrom rowFrom spelled numeralFor amountNumeral placeNumeral writes legal allows every valueFrom textOf startOf columns element page tie firstBroken firstFrom itemOf plain temperature placeOf departure south west same partsOf octantTie octantFits placeTie signTie digitTie lastDigit windTie
+unfolding writtenIn missing said recordOf recordFrom rowFrom spelled numeralFor amountNumeral placeNumeral writes legal allows every valueFrom textOf startOf columns element page tie firstBroken firstFrom itemOf plain temperature placeOf departure south west same partsOf octantTie octantFits placeTie signTie digitTie lastDigit windTie dayTie latestDay leaps lastDay
 breaks-each = refl

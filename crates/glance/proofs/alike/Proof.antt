@@ -22,10 +22,14 @@ codes-off-requires c κs = search needs
 temperatures-requires : tie.Need-temperatures-requires
 temperatures-requires c κs = search needs
 
+day-off-requires : tie.Need-day-off-requires
+day-off-requires c κs = search needs
+
 returns : tie.Need-returns
 returns c =
-    let a = c .before .before .before in
-    two-of _ _ (a .before .before .dates-off .ensures) (two-of _ _ (a .before .places-off .ensures) (two-of _ _ (a .winds-off .ensures) (two-of _ _ (c .before .before .falls-off .ensures) (two-of _ _ (c .before .codes-off .ensures) (c .temperatures .ensures)))))
+    let t = c .before in
+    let a = t .before .before .before in
+    two-of _ _ (a .before .before .dates-off .ensures) (two-of _ _ (a .before .places-off .ensures) (two-of _ _ (a .winds-off .ensures) (two-of _ _ (t .before .before .falls-off .ensures) (two-of _ _ (t .before .codes-off .ensures) (two-of _ _ (t .temperatures .ensures) (c .day-off .ensures))))))
 
 pub alike-spec : {M : Type 1} → statement M
 alike-spec =
@@ -37,4 +41,5 @@ alike-spec =
     falls-off-requires
     codes-off-requires
     temperatures-requires
+    day-off-requires
     returns)

@@ -91,6 +91,9 @@ columns-requires-17 c κs = search needs
 wind-tie-requires-2 : tie.Need-wind-tie-requires-2
 wind-tie-requires-2 c κs = search needs
 
+day-tie-requires : tie.Need-day-tie-requires
+day-tie-requires c κs = search needs
+
 returns : tie.Need-returns
 unfolding Ties.tie textOf startOf element columns page
 returns c = of-three placeTie (c .place-tie .ensures) (c .before .before .before .columns .ensures .0) (c .before .before .columns2 .ensures .0) (c .before .columns3 .ensures .0) ∙ at-tie (c .before .before .before .before .before .before) (c .before .before .before .before .match .keys1)
@@ -127,7 +130,10 @@ unfolding Ties.tie textOf startOf element columns page
 returns-9 c = of-two windTie (c .wind-tie2 .ensures) (c .before .before .columns16 .ensures .0) (c .before .columns17 .ensures .0) ∙ at-tie (c .before .before .before .before .before) (c .before .before .before .match .keys9)
 
 returns-10 : tie.Need-returns-10
-returns-10 c = no-tie _ _ _ (c .match .rest)
+returns-10 c = c .day-tie .ensures _ ∙ at-tie (c .before .before .before) (c .before .match .keys10)
+
+returns-11 : tie.Need-returns-11
+returns-11 c = no-tie _ _ _ (c .match .rest)
 
 pub holds-spec : {M : Type 1} → statement M
 holds-spec =
@@ -159,6 +165,7 @@ holds-spec =
     columns-requires-16
     columns-requires-17
     wind-tie-requires-2
+    day-tie-requires
     returns
     returns-2
     returns-3
@@ -168,4 +175,5 @@ holds-spec =
     returns-7
     returns-8
     returns-9
-    returns-10)
+    returns-10
+    returns-11)

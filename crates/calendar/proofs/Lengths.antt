@@ -1,11 +1,11 @@
 -- How long a month can be, whatever is known of it. Assumes nothing.
-use mathlib.Core.Path.{_≡_, refl}
+use mathlib.Core.Path.{_≡_}
 use mathlib.Core.Bool.{Bool, true, false, cond}
 use Prim.Native.Nat.{ℕ, _≤_}
 use native.Mathlib.Nat.{le-refl}
 use lib.Dec.{eqb, lit≤}
 use Rattle.text.specs.Texts.{among}
-use Rattle.calendar.specs.Calendar.{lastDay}
+use Rattle.calendar.specs.Calendar.{lastDay, widestDay}
 
 -- the last day of a month that is not February, by whether it is one of the four
 module _ (leap : Bool) (month : ℕ) (other : eqb month 2 ≡ false) where
@@ -35,8 +35,8 @@ module _ (leap : Bool) (month : ℕ) where
   pub at-most-31 : lastDay leap month ≤ 31
   at-most-31 = by-kind (λ n. n ≤ 31) (lit≤ tt) (lit≤ tt) (lit≤ tt) (lit≤ tt)
 
--- none is longer in another year than in a leap year, or shorter
-pub leap-longest : (leap : Bool) (month : ℕ) → lastDay leap month ≤ lastDay true month
+-- none is longer in another year than in a leap year
+pub leap-longest : (leap : Bool) (month : ℕ) → lastDay leap month ≤ widestDay month
 unfolding lastDay
 leap-longest true month = le-refl _
 leap-longest false month = by (eqb month 2)

@@ -1,13 +1,12 @@
 -- Request 3: the calendar is the one on the wall, and the widest day where something is blank is the greatest over what could stand there. Assumes nothing.
-use mathlib.Core.Path.{_≡_, refl, ap, _∙_}
-use mathlib.Core.Bool.{Bool, true, false, not, cond, _&&_, _||_}
+use mathlib.Core.Path.{_≡_, refl}
+use mathlib.Core.Bool.{true, false, not}
 use mathlib.Core.List.{List, [], _∷_, map}
 use Prim.Native.Nat.{ℕ, zero, suc, _+_, _*_, _%_, _≤_}
 use native.Mathlib.Omega.{arith}
-use borrow.Author.Tests.{eq-eqb}
-use lib.Dec.{eqb, lit≤}
+use lib.Dec.{lit≤}
 use Rattle.text.proofs.Ways.{second-holds}
-use Rattle.calendar.specs.Calendar.{divides, leaps, lastDay, lastDayIn}
+use Rattle.calendar.specs.Calendar.{divides, leaps, lastDay, lastDayIn, widestDay}
 use Rattle.calendar.proofs.Lengths.{at-most-31, leap-longest}
 
 -- every year that 400 divides is a leap year
@@ -70,8 +69,8 @@ IsYear year = year ≤ 9999
 abbrev pub IsMonth : ℕ → Type 0
 IsMonth month = (1 ≤ month) × (month ≤ 12)
 
--- with no year known, the last day of a month is that of a leap year, in which February has 29 days
-pub no-year : (month : ℕ) → Greatest IsYear (λ year. lastDayIn year month) (lastDay true month)
+-- with no year the widest day of a month is the greatest over all years, 29 in February
+pub no-year : (month : ℕ) → Greatest IsYear (λ year. lastDayIn year month) (widestDay month)
 unfolding leaps
 no-year month = record {
   one = 0;
@@ -84,7 +83,7 @@ pub no-year-february : Greatest IsYear (λ year. lastDayIn year 2) 29
 unfolding lastDay
 no-year-february = no-year 2
 
--- with no month known it is 31, whatever the year
+-- with no month it is 31, whatever the year
 pub no-month : (year : ℕ) → Greatest IsMonth (lastDayIn year) 31
 unfolding lastDay
 no-month year = record {

@@ -1,6 +1,6 @@
 -- The calendar: Gregorian, by the same rule for every year from 0000 on. Assumes nothing.
 use Prim.Native.Nat.{ℕ, _%_}
-use mathlib.Core.Bool.{Bool, cond, not, _&&_, _||_}
+use mathlib.Core.Bool.{Bool, true, cond, not, _&&_, _||_}
 use lib.Dec.{eqb}
 use Rattle.text.specs.Texts.{among}
 
@@ -15,6 +15,9 @@ leaps year = divides 4 year && (not (divides 100 year) || divides 400 year)
 unfoldable pub lastDay : Bool → ℕ → ℕ
 lastDay leap month = cond (eqb month 2) (cond leap 29 28) (cond (among 4 6 9 11 month) 30 31)
 
--- the last day of a month in its year; with no year known, when the month is longest; with no month known either
+-- that of a month in its year; and of a month with no year, which may be a leap year
 abbrev pub lastDayIn : ℕ → ℕ → ℕ
 lastDayIn year month = lastDay (leaps year) month
+
+abbrev pub widestDay : ℕ → ℕ
+widestDay month = lastDay true month

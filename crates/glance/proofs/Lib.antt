@@ -2,5 +2,6 @@
 pub mod Words
 pub mod Wides
 pub mod Lawful
+pub mod MonthDays
 pub mod Tied
 pub mod Sound

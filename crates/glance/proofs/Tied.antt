@@ -2,7 +2,7 @@
 use mathlib.Core.Path.{_≡_, refl, sym, ap, _∙_}
 use mathlib.Core.Bool.{Bool, true, false, not, cond, _&&_, _||_, Bool·beq, true≢false}
 use mathlib.Core.List.{List, [], _∷_}
-use mathlib.Core.Logic.{_⊎_, inl, inr, ⊎-elim}
+use mathlib.Core.Logic.{_⊎_, ⊎-elim}
 use Prim.Native.Nat.{ℕ, zero, suc, _+_, _*_, _-_, _%_, _<_, _≤_}
 use native.Mathlib.Omega.{arith}
 use borrow.Author.Tests.{eqb-true, eqb-false, ne-eqb, leb-true, le-leb, lt-leb, not-true}
@@ -19,8 +19,6 @@ use Rattle.text.proofs.Order.{zeros}
 use Rattle.text.proofs.Ranges.{greatest}
 use Rattle.text.proofs.Parts.{one-column}
 use Rattle.numerals.specs.Spelling.{spelled}
-use Rattle.numerals.proofs.Backs.{digits-back}
-use Rattle.calendar.specs.Calendar.{lastDay}
 use Rattle.layout.specs.declared.Edition.{Edition}
 use Rattle.layout.specs.declared.Edition.the-variants.{One, Three, Four}
 use Rattle.layout.specs.Editions.{lengthOf, lastOf}
@@ -30,15 +28,15 @@ use Rattle.layout.proofs.Elements.{in-each}
 use Rattle.layout.proofs.RecordLaws.{shortest}
 use Rattle.layout.proofs.Beyond.{text-none, last-above}
 use Rattle.ties.specs.Ties.{there, placeTie, octantFits, octantTie, negative, signTie, lastDigit, tenthsFit, measuredFit, digitTie, windTie, dayTie, ties, tie}
-use Rattle.ties.proofs.Days.{blank-says-0, in-every-year}
+use Rattle.ties.proofs.Days.{in-every-year}
 use Rattle.columns.specs.Tables.{allowed, cellOf, cellsFrom, cells, cellAt, bonds, bondsFrom, bondAt, inside, after, fits, Columns}
 use Rattle.columns.proofs.Bonds.{after-blank, same-blank, first-says}
 use Rattle.columns.proofs.Cells.{at-most-126}
-use Rattle.glance.specs.Tests.{lastHighest, plusZero, topDigit, halfDigit, lastFits, needs, far, octantNear, common}
-use Rattle.glance.specs.Limits.{inColumns}
+use Rattle.glance.specs.Tests.{lastHighest, plusZero, topDigit, halfDigit, lastFits, needs, far, octantNear}
 use Rattle.glance.specs.Sure.{Degrees, Temperatures, InEveryYear, Rest}
 use Rattle.glance.proofs.Words.{number-more}
 use Rattle.glance.proofs.Wides.{spells, at-most, at-least}
+use Rattle.glance.proofs.MonthDays.{has-day}
 
 -- the ties of texts of which it is known whether they are blank
 place-holds : (a b c : List ℕ) (x : Bool) → blank a ≡ x → blank b ≡ x → blank c ≡ x → placeTie a b c ≡ true
@@ -93,34 +91,6 @@ digit-holds f b m n e h =
   where
     nought : b ≤ 48 → lastDigit (number (f ∷ [])) n ≡ true
     nought l = let none : n % 10 ≡ 0 = omega arith in rw none (decide (eqb (number (f ∷ [])) 4) (λ x. rw x) (λ x. rw x (free (eqb (number (f ∷ [])) 5))))
-
--- a day of a month that every year has, of each that may stand on the page: by the bytes, and so by the calendar
-days-held : ℕ → ℕ → Bool
-days-held m d = not (common (inColumns 2 m) (inColumns 2 d)) || leb d (lastDay false m)
-
-all-days : everyBelow 13 (λ m. everyBelow 32 (days-held m)) ≡ true
-unfolding days-held common lastDay spelled valueFrom
-all-days = refl
-
-as-spelled : (t : List ℕ) → length t ≡ 2 → digits t ≡ true → word t ≡ inColumns 2 (number t)
-as-spelled t l d = ap word (sym (digits-back 2 t l d))
-
--- a text that is blank, or digits from a to b
-abbrev BlankOr : ℕ → ℕ → List ℕ → Type 0
-BlankOr a b t = (blank t ≡ true) ⊎ ((digits t && between a b (number t)) ≡ true)
-
-has-day : (m d : List ℕ) → length m ≡ 2 → length d ≡ 2 → BlankOr 1 12 m → BlankOr 1 31 d → common (word m) (word d) ≡ true → number d ≤ lastDay false (number m)
-unfolding days-held lastDay
-has-day m d lm ld ms ds h = ⊎-elim (λ b. omega (arith, blank-says-0 d b)) (λ x. written (and-first _ _ x) (greatest 1 31 _ (and-second (digits d) _ x)) ms) ds
-  where
-    written : digits d ≡ true → number d ≤ 31 → BlankOr 1 12 m → number d ≤ lastDay false (number m)
-    written y k (inl b) = rw (blank-says-0 m b) k
-    written y k (inr x) =
-        let low : number m ≤ 12 = greatest 1 12 _ (and-second (digits m) _ x) in
-        let row = passes-below 13 (λ m. everyBelow 32 (days-held m)) all-days (number m) (omega arith) in
-        leb-true _ _
-        (imply (common (inColumns 2 (number m)) (inColumns 2 (number d))) _ (passes-below 32 (days-held (number m)) row (number d) (omega arith))
-        (rw (sym (as-spelled m lm (and-first _ _ x)), sym (as-spelled d ld y)) h))
 
 module _ (ed : Edition) (xs : List ℕ) (full : length xs ≡ lengthOf ed) (cols : Columns ed xs) (legal-at : (e : ℕ) → 1 ≤ e → e ≤ lastOf ed → legal ed xs e ≡ true) where
   module _ (s w : ℕ) (l : 1 ≤ w) (h : s + w ≤ lengthOf ed) where

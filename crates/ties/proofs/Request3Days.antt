@@ -1,14 +1,13 @@
 -- Request 3: tie 10 holds of a record exactly where its day exists in some year and some month that could stand with what the record says: whatever may stand
 -- where it is blank, and else what it says. Assumes nothing.
-use mathlib.Core.Path.{_≡_, refl, sym, _∙_, subst}
+use mathlib.Core.Path.{_≡_, refl, sym, _∙_}
 use mathlib.Core.Logic.{_⊎_, _↔_, inl, inr, ⊎-elim}
-use mathlib.Core.Bool.{Bool, true, false, _||_, true≢false}
+use mathlib.Core.Bool.{true, false, cond, true≢false}
 use mathlib.Core.List.{List}
 use Prim.Native.Nat.{ℕ, _≤_}
 use native.Mathlib.Nat.{le-trans}
-use native.Mathlib.Omega.{arith}
 use borrow.Author.Tests.{leb-true, le-leb}
-use lib.Dec.{leb, lit≤}
+use lib.Dec.{lit≤}
 use Rattle.text.specs.Bytes.{blank, digits, number}
 use Rattle.text.specs.Texts.{allows}
 use Rattle.text.specs.declared.Texts.the-variants.{Within}
@@ -21,7 +20,7 @@ use Rattle.calendar.proofs.Request3Calendar.{IsYear, IsMonth}
 use Rattle.layout.specs.declared.Edition.{Edition}
 use Rattle.layout.specs.Page.{element, page, textOf, textsOf, mayBeBlank, legal}
 use Rattle.layout.proofs.Elements.{in-each}
-use Rattle.ties.specs.Ties.{mayLeap, latestDay, dayTie, tie}
+use Rattle.ties.specs.Ties.{latestDay, dayTie, tie}
 
 -- the day exists in a year and a month that could stand there
 pub record Exists (year month day : List ℕ) : Type 0 where
@@ -34,7 +33,7 @@ pub record Exists (year month day : List ℕ) : Type 0 where
   pub has : number day ≤ lastDayIn in-year in-month
 
 module _ (year month day : List ℕ) where
-  -- no day past the last of the month in every year that could stand there
+  -- a day that exists is not past the latest that may stand
   latest : Exists year month day → number day ≤ latestDay year month
   unfolding latestDay
   latest e =
@@ -44,17 +43,17 @@ module _ (year month day : List ℕ) where
 
   module _ (y : blank year ≡ false → IsYear (number year)) (m : blank month ≡ false → IsMonth (number month)) where
     -- a month that could stand there: January, which has 31 days, where it is blank
-    in-some-month : (n : ℕ) → IsYear n → (blank year ≡ false → number year ≡ n) → leaps n ≡ mayLeap year → number day ≤ latestDay year month → Exists year month day
-    unfolding latestDay lastDay
-    in-some-month n i s l h =
+    in-some-month : (n : ℕ) → IsYear n → (blank year ≡ false → number year ≡ n) → number day ≤ cond (blank month) 31 (lastDayIn n (number month)) → Exists year month day
+    unfolding lastDay
+    in-some-month n i s h =
         decide (blank month)
         (λ b. record { in-year = n; in-month = 1; is-year = i; is-month = (lit≤ tt, lit≤ tt); says-year = s; says-month = λ f. absurd (true≢false (sym b ∙ f)); has = rw b at h })
-        (λ b. record { in-year = n; in-month = number month; is-year = i; is-month = m b; says-year = s; says-month = λ f. refl; has = rw l (rw b at h) })
+        (λ b. record { in-year = n; in-month = number month; is-year = i; is-month = m b; says-year = s; says-month = λ f. refl; has = rw b at h })
 
     -- and a year: 0000, which is a leap year, where it is blank
     exists : number day ≤ latestDay year month → Exists year month day
-    unfolding leaps
-    exists = decide (blank year) (λ b. in-some-month 0 (lit≤ tt) (λ f. absurd (true≢false (sym b ∙ f))) (rw b)) (λ b. in-some-month (number year) (y b) (λ f. refl) (rw b))
+    unfolding latestDay leaps
+    exists h = decide (blank year) (λ b. in-some-month 0 (lit≤ tt) (λ f. absurd (true≢false (sym b ∙ f))) (rw b at h)) (λ b. in-some-month (number year) (y b) (λ f. refl) (rw b at h))
 
     pub day-exists : (dayTie year month day ≡ true) ↔ ((blank day ≡ true) ⊎ Exists year month day)
     unfolding dayTie

@@ -7,7 +7,7 @@ use lib.ListN.{length, getD}
 use Rattle.text.specs.Bytes.{blank, number}
 use Rattle.text.specs.Texts.{among}
 use Rattle.text.specs.First.{firstOf}
-use Rattle.calendar.specs.Calendar.{leaps, lastDay}
+use Rattle.calendar.specs.Calendar.{lastDayIn, widestDay}
 use Rattle.layout.specs.declared.Edition.{Edition}
 use Rattle.layout.specs.declared.Edition.the-variants.{One, Three, Four}
 use Rattle.layout.specs.Page.{textOf}
@@ -55,18 +55,14 @@ digitTie format air dewSign dewPoint sea wetSign wetBulb =
 unfoldable pub windTie : List ℕ → List ℕ → Bool
 windTie speed indicator = blank speed || there indicator
 
--- 10. a day its month lacks: the latest that may stand is the last of the month in its year. Where the year is blank the month's widest day stays allowed, where the
--- month is blank 31
-abbrev pub mayLeap : List ℕ → Bool
-mayLeap year = blank year || leaps (number year)
-
+-- 10. the day exists in its month; where year or month is blank the widest day stays allowed: 31 with no month, with no year the month's
 unfoldable pub latestDay : List ℕ → List ℕ → ℕ
-latestDay year month = cond (blank month) 31 (lastDay (mayLeap year) (number month))
+latestDay year month = cond (blank month) 31 (cond (blank year) (widestDay (number month)) (lastDayIn (number year) (number month)))
 
 unfoldable pub dayTie : List ℕ → List ℕ → List ℕ → Bool
 dayTie year month day = blank day || leb (number day) (latestDay year month)
 
--- the ties of a record, from the first on: how many there are is said here and nowhere else
+-- the ties of a record, from the first on; how many there are is the length of this list
 abbrev pub ties : Edition → List ℕ → List Bool
 ties ed xs =
     placeTie (textOf 6 xs) (textOf 7 xs) (textOf 8 xs) ∷

@@ -1,8 +1,8 @@
 // The ties between elements.
 //
-// Each tie is a test of the texts of its elements. `holds` hands it their columns; ties 7 and 10, which
-// look at many, take them themselves. Columns that a record does not have are taken as blank, so no tie asks how long
-// the record is.
+// Each tie is a test of the texts of its elements. `holds` hands it their columns; ties 7 and 10 take
+// their own. Columns that a record does not have are taken as blank, so no tie asks how long the record
+// is.
 use layout::Edition;
 use layout::page;
 ghost use mathlib.Core.Path.{_≡_};

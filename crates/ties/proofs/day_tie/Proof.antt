@@ -1,6 +1,5 @@
 -- `ties::day_tie` meets its contract: its columns are those of tie 10's elements, and blanks among them say 0. Assumes nothing.
 use mathlib.Core.Path.{_∙_, ap, ap₂, sym}
-use Prim.Native.Nat.{ℕ}
 use lib.Dec.{leb}
 use Rattle.text.specs.Bytes.{number}
 use Rattle.calendar.specs.Calendar.{leaps, lastDay}

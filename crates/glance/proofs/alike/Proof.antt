@@ -33,13 +33,4 @@ returns c =
 
 pub alike-spec : {M : Type 1} → statement M
 alike-spec =
-    tie.close
-    (tie.spec
-    dates-off-requires
-    places-off-requires
-    winds-off-requires
-    falls-off-requires
-    codes-off-requires
-    temperatures-requires
-    day-off-requires
-    returns)
+    tie.close (tie.spec dates-off-requires places-off-requires winds-off-requires falls-off-requires codes-off-requires temperatures-requires day-off-requires returns)

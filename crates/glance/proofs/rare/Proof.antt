@@ -38,13 +38,4 @@ returns c =
 
 pub rare-spec : {M : Type 1} → statement M
 rare-spec =
-    tie.close
-    (tie.spec
-    above-requires
-    same-requires
-    above-requires-2
-    same-requires-2
-    same-requires-3
-    same-requires-4
-    same-requires-5
-    returns)
+    tie.close (tie.spec above-requires same-requires above-requires-2 same-requires-2 same-requires-3 same-requires-4 same-requires-5 returns)

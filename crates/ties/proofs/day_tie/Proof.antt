@@ -47,14 +47,4 @@ returns c = λ ed.
 
 pub day-tie-spec : {M : Type 1} → statement M
 day-tie-spec =
-    tie.close
-    (tie.spec
-    columns-requires
-    number-of-requires
-    columns-requires-2
-    number-of-requires-2
-    columns-requires-3
-    number-of-requires-3
-    is-leap-requires
-    last-day-requires
-    returns)
+    tie.close (tie.spec columns-requires number-of-requires columns-requires-2 number-of-requires-2 columns-requires-3 number-of-requires-3 is-leap-requires last-day-requires returns)

@@ -36,7 +36,8 @@ lastFits top half b = leb b top || eqb b half
 unfoldable pub needs : ℕ → ℕ → Bool
 needs b w = eqb b 32 || not (eqb w 32)
 
--- a day that every year has in that month, by the bytes of both: up to 28; but in February up to 30; but in April, June, September and November any
+-- a day that every year has in that month, by the bytes of both: 28 and below in every month, 29 and 30 in each that is not February, 31 in each that is also not
+-- April, June, September or November
 unfoldable pub common : ℕ → ℕ → Bool
 common month day =
     leb day 12856 || (not (eqb month 12338) && (leb day 13104 || ((not (eqb month 12340) && not (eqb month 12342)) && (not (eqb month 12345) && not (eqb month 12593)))))

@@ -254,7 +254,7 @@ fn rare(month: u32, day: u32) -> u8
                     | (same(month, 0x3039) | same(month, 0x3131)))))
 }
 
-// The same of the record's own.
+// The same of the record's month and day.
 fn day_off(line: &[u8]) -> u8
     requires { ⌜ 131 ≤ length (now line) ⌝ }
     ensures { λ z. ⌜ (z ≡ 0 → InEveryYear (now (line .entry))) ⌝ }

@@ -1,6 +1,6 @@
 -- The two words are those of the elements lost. Assumes nothing.
 use mathlib.Core.Path.{_≡_, refl, sym, ap, ap₂, _∙_}
-use mathlib.Core.Bool.{Bool, true, false, _||_}
+use mathlib.Core.Bool.{Bool, true, false}
 use mathlib.Core.List.{List}
 use mathlib.Core.Logic.{_⊎_, inl, inr}
 use Prim.Native.Nat.{ℕ, _+_, _<_, _≤_}
@@ -8,37 +8,38 @@ use native.Mathlib.Omega.{arith}
 use borrow.Author.Tests.{leb-true, leb-false}
 use lib.Bits.{bitOr}
 use lib.Dec.{leb}
-use lib.ListN.{length, getD, List·getD-eq-default}
+use lib.ListN.{length, List·getD-eq-default}
 use Rattle.text.specs.Bytes.{every}
 use Rattle.losses.specs.Losses.{word, losses, lossesOf}
 use Rattle.losses.proofs.Listed.{same-word, no-word}
 use Rattle.losses.proofs.Ways.{up-to-or-past}
 use Rattle.layout.specs.declared.Edition.{Edition}
+use Rattle.layout.specs.declared.Edition.the-variants.{One}
 use Rattle.layout.specs.Editions.{lengthOf, lastOf}
-use Rattle.layout.specs.Page.{page, element, columns, startOf, textOf, legalText}
-use Rattle.layout.proofs.Beyond.{text-none}
+use Rattle.layout.specs.Page.{startOf, textOf, firstByte, legalText}
+use Rattle.layout.proofs.Beyond.{last-above, text-none}
 use Rattle.layout.proofs.Columns.{start-rises, filled}
-use Rattle.layout.proofs.RecordLaws.{shortest, ends}
+use Rattle.layout.proofs.RecordLaws.{ends}
 use Rattle.hemispheres.specs.Digits.{isFirst, crosses}
 use Rattle.meanings.specs.Kept.{lostText, lostAt}
-use Rattle.blanking.specs.Columns.{changes, leaves, codesLost, countryLost, versionLost, flagsLost, laterLost, sharedLost, lostIn, named}
+use Rattle.blanking.specs.LostBytes.{Spot, inElement, changes, leaves, codesLost, countryLost, versionLost, flagsLost, laterLost, sharedLost, lostIn, named}
 use Rattle.blanking.proofs.Blanked.{or-none}
 use Rattle.blanking.proofs.Steps.{and-none, codes-off, country-off, version-off, flags-off, later-off, in-later}
 use Rattle.blanking.proofs.Lost.{first-lost}
 use Rattle.blanking.proofs.NameLaws.{joined}
 
 -- what is not there is not lost
-later-zero : (first x : Bool) (c : ℕ) → laterLost first x c 0 ≡ false
+later-zero : (first x : Bool) (at : Spot) → laterLost first x at 0 ≡ false
 unfolding laterLost
-later-zero true x c = rw (and-none _, and-none _)
-later-zero false x c = rw (and-none _, and-none _) (and-none x)
+later-zero true x at = rw (and-none (at 86 93), and-none (at 94 101))
+later-zero false x at = rw (and-none (at 86 86), and-none (at 94 101)) (and-none x)
 
 pub last-none : (xs : List ℕ) (first x : Bool) → length xs ≡ 131 → 0 ≡ word (named (laterLost first x) xs) 65 37
-last-none xs first x h = sym (same-word (named (laterLost first x) xs) (λ e. false) 65 37 (λ e l m. by e (up-to-or-past 131 (startOf e))) ∙ no-word 65 37)
+last-none xs first x h = sym (same-word (named (laterLost first x) xs) (λ e. false) 65 37 (λ e l m. by e (up-to-or-past 86 e)) ∙ no-word 65 37)
   where
-    by : (e : ℕ) → (131 ≤ startOf e) ⊎ (startOf e < 131) → named (laterLost first x) xs e ≡ false
-    by e (inl l) = ap (laterLost first x (startOf e)) (List·getD-eq-default xs 0 (omega arith)) ∙ later-zero first x (startOf e)
-    by e (inr l) = later-off (startOf e) (getD xs (startOf e) 0) first x l
+    by : (e : ℕ) → (86 ≤ e) ⊎ (e < 86) → named (laterLost first x) xs e ≡ false
+    by e (inl l) = ap (laterLost first x (inElement e)) (List·getD-eq-default xs 0 (omega (arith, filled One, start-rises 86 e l))) ∙ later-zero first x (inElement e)
+    by e (inr l) = later-off e (firstByte e xs) first x l
 
 -- in edition 1 whatever is written is lost, in the others what the step loses
 module _ (to : Edition) (x : Bool) where
@@ -48,14 +49,6 @@ module _ (to : Edition) (x : Bool) where
 
   pub in-some : (y : Bool) → isFirst to ≡ false → y ≡ x → (xs : List ℕ) (v : ℕ) → v ≡ word (named (laterLost false y) xs) 65 37 → v ≡ word (named (laterLost (isFirst to) x) xs) 65 37
   in-some y f e xs v g = g ∙ same-word _ _ 65 37 (λ k l h. rw (f, e))
-
-at-64 : startOf 64 ≡ 109
-unfolding startOf columns element page
-at-64 = refl
-
-at-65 : startOf 65 ≡ 110
-unfolding startOf columns element page
-at-65 = refl
 
 module _ (from to : Edition) (xs : List ℕ) (full : length xs ≡ lengthOf from) (each : (e : ℕ) → 1 ≤ e → e ≤ lastOf from → legalText from e (textOf e xs) ≡ true) where
   lost-here : (e : ℕ) → 1 ≤ e → e ≤ 101 → lostAt from to xs e ≡ named (lostIn from to) xs e
@@ -68,7 +61,7 @@ module _ (from to : Edition) (xs : List ℕ) (full : length xs ≡ lengthOf from
           let past = leb-false e (lastOf from) k in
           let after : length xs ≤ startOf e = omega (arith, filled from, start-rises (lastOf from + 1) e (omega arith)) in
           rw (text-none from xs full e past)
-          (sym (in-later (startOf e) (getD xs (startOf e) 0) from to (omega (arith, shortest from)) ∙ ap (laterLost (isFirst to) (leaves from to) (startOf e)) (List·getD-eq-default xs 0 after) ∙ later-zero (isFirst to) (leaves from to) (startOf e)))
+          (sym (in-later e (firstByte e xs) from to (omega (arith, last-above from)) ∙ ap (laterLost (isFirst to) (leaves from to) (inElement e)) (List·getD-eq-default xs 0 after) ∙ later-zero (isFirst to) (leaves from to) (inElement e)))
 
   low-word : (codes country version : ℕ) → codes ≡ word (named (codesLost (changes from to)) xs) 1 64 → country ≡ word (named (countryLost (crosses from to)) xs) 1 64 → version ≡ word (named (versionLost (leaves from to)) xs) 1 64 →
       bitOr (bitOr codes country) version ≡ word (lostAt from to xs) 1 64
@@ -76,18 +69,14 @@ module _ (from to : Edition) (xs : List ℕ) (full : length xs ≡ lengthOf from
   low-word codes country version p q r =
       joined _ _ 1 64 _ _ (joined _ _ 1 64 _ _ p q) r ∙
       same-word _ (lostAt from to xs) 1 64
-      (λ e l h.
-      let low : startOf e < 111 = omega (arith, at-64, start-rises e 64 (omega arith)) in
-      sym (lost-here e l (omega arith) ∙ rw (flags-off (startOf e) (getD xs (startOf e) 0) (leaves from to) (inl low), later-off (startOf e) (getD xs (startOf e) 0) (isFirst to) (leaves from to) (omega arith)) (or-none _ ∙ or-none _)))
+      (λ e l h. sym (lost-here e l (omega arith) ∙ rw (flags-off e (firstByte e xs) (leaves from to) (inl (omega arith)), later-off e (firstByte e xs) (isFirst to) (leaves from to) (omega arith)) (or-none _ ∙ or-none _)))
 
   high-word : (flags last : ℕ) → flags ≡ word (named (flagsLost (leaves from to)) xs) 65 37 → last ≡ word (named (laterLost (isFirst to) (leaves from to)) xs) 65 37 → bitOr flags last ≡ word (lostAt from to xs) 65 37
   unfolding lostIn sharedLost
   high-word flags last p q =
       joined _ _ 65 37 _ _ p q ∙
       same-word _ (lostAt from to xs) 65 37
-      (λ e l h.
-      let high : 110 ≤ startOf e = omega (arith, at-65, start-rises 65 e l) in
-      sym (lost-here e (omega arith) (omega arith) ∙ rw (codes-off (startOf e) (getD xs (startOf e) 0) (changes from to) (inr (omega arith)), country-off (startOf e) (getD xs (startOf e) 0) (crosses from to) (inr (omega arith)), version-off (startOf e) (getD xs (startOf e) 0) (leaves from to) (inr high))))
+      (λ e l h. sym (lost-here e (omega arith) (omega arith) ∙ rw (codes-off e (firstByte e xs) (changes from to) (inr (omega arith)), country-off e (firstByte e xs) (crosses from to) (inr (omega arith)), version-off e (firstByte e xs) (leaves from to) (inr (omega arith)))))
 
   pub all-named : (codes country version flags last : ℕ) → codes ≡ word (named (codesLost (changes from to)) xs) 1 64 → country ≡ word (named (countryLost (crosses from to)) xs) 1 64 →
       version ≡ word (named (versionLost (leaves from to)) xs) 1 64 → flags ≡ word (named (flagsLost (leaves from to)) xs) 65 37 → last ≡ word (named (laterLost (isFirst to) (leaves from to)) xs) 65 37 →

@@ -1,15 +1,15 @@
--- Element by element: it is lost exactly where the first of its columns loses its byte, and every column of it is blank then. Assumes nothing.
+-- Element by element: it is lost exactly where its first byte is, and every column of it is blank then. Assumes nothing.
 use mathlib.Core.Path.{_≡_, refl, sym, ap, _∙_, subst}
-use mathlib.Core.Bool.{Bool, true, false, cond, not, _&&_, _||_, true≢false}
+use mathlib.Core.Bool.{Bool, true, false, cond, not, _&&_, true≢false}
 use mathlib.Core.List.{List, [], _∷_}
 use mathlib.Core.Logic.{_⊎_, inl, inr}
 use Prim.Native.Nat.{ℕ, _+_, _-_, _<_, _≤_}
 use native.Mathlib.Nat.{add-zero}
 use native.Mathlib.Omega.{arith}
-use borrow.Author.Tests.{eqb-true, ne-eqb, leb-true, le-leb}
-use lib.Dec.{eqb, leb}
-use lib.ListN.{length, getD, take, drop, length-drop}
-use lib.Seq.{getD-take, getD-drop, length-take-le}
+use borrow.Author.Tests.{eqb-true, ne-eqb, le-leb}
+use lib.Dec.{eqb}
+use lib.ListN.{length, getD, drop, length-drop}
+use lib.Seq.{length-take-le}
 use Rattle.text.specs.Bytes.{between, printable, blank}
 use Rattle.text.specs.Texts.{allows}
 use Rattle.text.specs.First.{firstFrom}
@@ -17,27 +17,27 @@ use Rattle.text.specs.declared.Texts.the-variants.{CallSign}
 use Rattle.text.proofs.Blanks.{only-blank}
 use Rattle.text.proofs.Every.{every-at}
 use Rattle.text.proofs.First.{all-of-none}
-use Rattle.text.proofs.Parts.{one-column}
 use Rattle.text.proofs.Ranges.{least, greatest}
 use Rattle.text.proofs.Ways.{second-holds}
 use Rattle.losses.proofs.Ways.{up-to-or-past}
 use Rattle.layout.specs.declared.Edition.{Edition}
 use Rattle.layout.specs.declared.Edition.the-variants.{One, Three, Four}
 use Rattle.layout.specs.Editions.{lastOf}
-use Rattle.layout.specs.Page.{page, element, columns, widthOf, startOf, textOf, textsOf, mayBeBlank, legalText, legal}
+use Rattle.layout.specs.Page.{page, element, widthOf, startOf, textOf, firstByte, textsOf, mayBeBlank, legalText, legal}
 use Rattle.layout.proofs.Alike.{later-alike}
-use Rattle.layout.proofs.Columns.{start-next, start-rises}
+use Rattle.layout.proofs.Columns.{some-column}
 use Rattle.layout.proofs.Elements.{in-each}
 use Rattle.layout.proofs.Lacking.{nothing-there}
+use Rattle.layout.proofs.Parts.{text-byte, one-byte}
 use Rattle.checking.proofs.PrintLaws.{legal-prints}
 use Rattle.hemispheres.specs.Digits.{isFirst, crosses}
 use Rattle.meanings.specs.Meaning.{hasSenses, senseOf}
 use Rattle.meanings.specs.Kept.{keeps, lostText, lostAt}
 use Rattle.meanings.proofs.KeepLaws.{alike-kept, early-kept, added-kept}
-use Rattle.blanking.specs.Columns.{lostIn, named}
+use Rattle.blanking.specs.LostBytes.{Spot, inElement, inColumn, lostIn, named}
 use Rattle.blanking.proofs.Table.{alone, narrow, alone-lost}
 use Rattle.blanking.proofs.Filled.{solid, legal-half, not-blank-byte, says-filled}
-use Rattle.blanking.proofs.Steps.{and-none, none-early, none-between, none-later, all-later, country-in}
+use Rattle.blanking.proofs.Steps.{and-none, same-spot, none-early, none-between, none-later, all-later, country-in}
 
 -- the elements in their order: most keep their texts in every edition, some have one column, then there are the country and the wide ones that edition 1 has not
 data Sort (e : ℕ) : Type 0 where
@@ -60,21 +60,6 @@ sort-of e = by (up-to-or-past e 39) (up-to-or-past e 41) (up-to-or-past e 42) (u
     by (inr a) (inr b) (inr c) (inr d) (inr f) (inl g) h = single (second-holds (between 40 41 e) _ (rw (le-leb 64 e f, le-leb e 86 g)))
     by (inr a) (inr b) (inr c) (inr d) (inr f) (inr g) (inl h) = later g h
     by (inr a) (inr b) (inr c) (inr d) (inr f) (inr g) (inr h) = single (second-holds (between 40 41 e) _ (second-holds (between 64 86 e) _ (le-leb 94 e h)))
-
--- where some of them stand
-places : (startOf 40 ≡ 69) × ((startOf 42 ≡ 71) × ((startOf 43 ≡ 78) × ((startOf 44 ≡ 80) × ((startOf 64 ≡ 109) × ((startOf 87 ≡ 132) × (startOf 94 ≡ 151))))))
-unfolding startOf columns element page
-places = (refl, (refl, (refl, (refl, (refl, (refl, refl))))))
-
--- the bytes of a text
-pub text-byte : (xs : List ℕ) (e i : ℕ) → i < widthOf e → getD (textOf e xs) i 0 ≡ getD xs (startOf e + i) 0
-unfolding textOf
-text-byte xs e i h = getD-take (widthOf e) (drop (startOf e) xs) i 0 h ∙ getD-drop (startOf e) xs i 0
-
--- each has a column
-pub some-column : (e : ℕ) → 1 ≤ e → e ≤ 101 → 1 ≤ widthOf e
-unfolding firstFrom element page
-some-column e l h = leb-true 1 (widthOf e) (all-of-none (λ f. leb 1 (widthOf f)) 1 101 (omega arith) refl e l (omega arith))
 
 -- what is legal and not blank is one of the texts
 allowed-half : (ed : Edition) (e : ℕ) (t : List ℕ) → blank t ≡ false → legalText ed e t ≡ true → allows (textsOf ed e) t ≡ true
@@ -152,6 +137,10 @@ module _ (from to : Edition) (xs : List ℕ) (e : ℕ) (l : 1 ≤ e) (h : e ≤ 
   abbrev byte : ℕ → ℕ
   byte i = getD xs (startOf e + i) 0
 
+  -- what is lost of it by its columns
+  gone : (i : ℕ) → i < widthOf e → lostIn from to (inColumn (startOf e + i)) (byte i) ≡ lostIn from to (inElement e) (byte i)
+  gone i m = ap (λ (at : Spot). lostIn from to at (byte i)) (same-spot e i m)
+
   long : length (textOf e xs) ≡ widthOf e
   unfolding textOf
   long = length-take-le (widthOf e) (drop (startOf e) xs) (rw length-drop (omega arith))
@@ -174,29 +163,26 @@ module _ (from to : Edition) (xs : List ℕ) (e : ℕ) (l : 1 ≤ e) (h : e ≤ 
 
   -- what the two laws say where nothing is lost, where one column says it all, and where the text is lost wherever it is filled and x is so
   record Says : Type 0 where
-    first : lostAt from to xs e ≡ lostIn from to (startOf e + 0) (byte 0)
-    every-column : e ≤ lastOf to → (i : ℕ) → i < widthOf e → cond (lostIn from to (startOf e + i) (byte i)) 32 (byte i) ≡ cond (lostAt from to xs e) 32 (byte i)
+    first : lostAt from to xs e ≡ lostIn from to (inElement e) (byte 0)
+    every-column : e ≤ lastOf to → (i : ℕ) → i < widthOf e → cond (lostIn from to (inElement e) (byte i)) 32 (byte i) ≡ cond (lostAt from to xs e) 32 (byte i)
 
-  quiet : lostAt from to xs e ≡ false → ((i : ℕ) → i < widthOf e → lostIn from to (startOf e + i) (byte i) ≡ false) → Says
-  quiet f g = record { first = f ∙ sym (g 0 (omega (arith, some-column e l h))); every-column = λ k i m. rw (f, g i m) }
+  quiet : lostAt from to xs e ≡ false → ((b : ℕ) → lostIn from to (inElement e) b ≡ false) → Says
+  quiet f g = record { first = f ∙ sym (g (byte 0)); every-column = λ k i m. rw (f, g (byte i)) }
 
   one : alone e ≡ true → Says
-  unfolding textOf
   one a =
       let w = narrow from to e l h a in
-      let text : textOf e xs ≡ getD xs (startOf e) 0 ∷ [] = ap (λ (n : ℕ). take n (drop (startOf e) xs)) w ∙ one-column xs (startOf e) (omega arith) in
-      let z : startOf e ≡ startOf e + 0 = omega arith in
+      let first-byte : byte 0 ≡ firstByte e xs = ap (λ (c : ℕ). getD xs c 0) (omega arith) in
+      let text : textOf e xs ≡ byte 0 ∷ [] = one-byte xs e w (omega arith) ∙ ap (λ (b : ℕ). b ∷ []) (sym first-byte) in
       let p = prints 0 (omega arith) in
-      let first : lostAt from to xs e ≡ lostIn from to (startOf e + 0) (byte 0) =
-      ap (lostText from to e) (text ∙ ap (λ (c : ℕ). getD xs c 0 ∷ []) z) ∙
-      alone-lost from to e l h a (byte 0) (least 32 126 (byte 0) p) (greatest 32 126 (byte 0) p) (ap (λ (c : ℕ). legalText from e (getD xs c 0 ∷ [])) (sym z) ∙ ap (legalText from e) (sym text) ∙ ok) ∙
-      ap (λ (c : ℕ). lostIn from to c (byte 0)) z in
+      let first : lostAt from to xs e ≡ lostIn from to (inElement e) (byte 0) =
+      ap (lostText from to e) text ∙ alone-lost from to e l h a (byte 0) (least 32 126 (byte 0) p) (greatest 32 126 (byte 0) p) (ap (legalText from e) (sym text) ∙ ok) in
       record { first = first; every-column = λ k i m. let none : i ≡ 0 = omega arith in rw (none, ← first) }
 
-  wherever : (x : Bool) → solid (textsOf from e) ≡ true → lostText from to e (textOf e xs) ≡ (not (blank (textOf e xs)) && x) → ((i : ℕ) → i < widthOf e → lostIn from to (startOf e + i) (byte i) ≡ (x && between 33 126 (byte i))) → Says
+  wherever : (x : Bool) → solid (textsOf from e) ≡ true → lostText from to e (textOf e xs) ≡ (not (blank (textOf e xs)) && x) → ((b : ℕ) → lostIn from to (inElement e) b ≡ (x && between 33 126 b)) → Says
   wherever x s f g = record {
-    first = f ∙ ap (λ (y : Bool). y && x) (first-filled s) ∙ swap (between 33 126 (byte 0)) x ∙ sym (g 0 (omega (arith, some-column e l h)));
-    every-column = λ k i m. ap (λ (y : Bool). cond y 32 (byte i)) (g i m) ∙ by x (blank (textOf e xs)) i m refl ∙ ap (λ (y : Bool). cond y 32 (byte i)) (sym f);
+    first = f ∙ ap (λ (y : Bool). y && x) (first-filled s) ∙ swap (between 33 126 (byte 0)) x ∙ sym (g (byte 0));
+    every-column = λ k i m. ap (λ (y : Bool). cond y 32 (byte i)) (g (byte i)) ∙ by x (blank (textOf e xs)) i m refl ∙ ap (λ (y : Bool). cond y 32 (byte i)) (sym f);
   }
     where
       swap : (y z : Bool) → (y && z) ≡ (z && y)
@@ -224,50 +210,23 @@ module _ (from to : Edition) (xs : List ℕ) (e : ℕ) (l : 1 ≤ e) (h : e ≤ 
   says : Says
   says = by (sort-of e)
     where
-      next : startOf (e + 1) ≡ startOf e + widthOf e
-      next = start-next e
-
       by : Sort e → Says
-      by (early a) = quiet (early-kept from to e (textOf e xs) a ok) (λ i m. none-early (startOf e + i) (byte i) from to (omega (arith, next, start-rises (e + 1) 40 (omega arith), places .0)))
+      by (early a) = quiet (early-kept from to e (textOf e xs) a ok) (λ b. none-early e b from to a)
       by (single a) = one a
-      by (added a b) =
-          quiet (added-kept from to e (textOf e xs) a b ok)
-          (λ i m. none-between (startOf e + i) (byte i) from to (omega (arith, start-rises 44 e a, places .1 .1 .1 .0)) (omega (arith, next, start-rises (e + 1) 64 (omega arith), places .1 .1 .1 .1 .0))
-          (inr (omega (arith, start-rises 44 e a, places .1 .1 .1 .0))))
-      by (sign q) = quiet (alike-kept from to e (textOf e xs) (call-sign from e q ∙ sym (call-sign to e q)) (rw q) ok)
-          (λ i m. none-between (startOf e + i) (byte i) from to (omega (arith, places .1 .0, here)) (omega (arith, places .1 .1 .0, there)) (inl (omega (arith, next, places .1 .1 .0, there))))
-        where
-          here : startOf e ≡ startOf 42
-          here = ap startOf q
-
-          there : startOf e + widthOf e ≡ startOf 43
-          there = sym next ∙ ap (λ (k : ℕ). startOf (k + 1)) q
+      by (added a z) = quiet (added-kept from to e (textOf e xs) a z ok) (λ b. none-between e b from to (omega arith) z (inr a))
+      by (sign q) = quiet (alike-kept from to e (textOf e xs) (call-sign from e q ∙ sym (call-sign to e q)) (rw q) ok) (λ b. none-between e b from to (omega arith) (omega arith) (inl (omega arith)))
       by (country q) =
           wherever (crosses from to) (ap (λ (k : ℕ). solid (textsOf from k)) q ∙ solid-country from)
           (filled-lost from to e (textOf e xs) (crosses from to) (λ b. subst (λ (k : ℕ). legalText from k (textOf e xs) ≡ true → keeps from to k (textOf e xs) ≡ not (crosses from to)) (sym q) (country-kept from to (textOf e xs) b) ok))
-          (λ i m. country-in (startOf e + i) (byte i) from to (omega (arith, places .1 .1 .0, here)) (omega (arith, places .1 .1 .1 .0, there)))
+          (λ b. country-in e b from to q)
+      by (later a z) = in-target (isFirst to) refl
         where
-          here : startOf e ≡ startOf 43
-          here = ap startOf q
-
-          there : startOf e + widthOf e ≡ startOf 44
-          there = sym next ∙ ap (λ (k : ℕ). startOf (k + 1)) q
-      by (later a b) = in-target (isFirst to) refl
-        where
-          low : 132 ≤ startOf e
-          low = omega (arith, start-rises 87 e a, places .1 .1 .1 .1 .1 .0)
-
-          high : startOf e + widthOf e ≤ 151
-          high = omega (arith, next, start-rises (e + 1) 94 (omega arith), places .1 .1 .1 .1 .1 .1)
-
           in-target : (x : Bool) → isFirst to ≡ x → Says
-          in-target false f = quiet (later-kept e a b from to (textOf e xs) f ok) (λ i m. none-later (startOf e + i) (byte i) from to (omega (arith, low)) (omega (arith, high)) f)
-          in-target true f =
-              wherever true (solid-later from e a b) (filled-lost from to e (textOf e xs) true (λ k. later-gone e a b from to (textOf e xs) f))
-              (λ i m. all-later (startOf e + i) (byte i) from to (omega (arith, low)) (omega (arith, high)) f)
+          in-target false f = quiet (later-kept e a z from to (textOf e xs) f ok) (λ b. none-later e b from to a z f)
+          in-target true f = wherever true (solid-later from e a z) (filled-lost from to e (textOf e xs) true (λ k. later-gone e a z from to (textOf e xs) f)) (λ b. all-later e b from to a z f)
 
   pub first-lost : lostAt from to xs e ≡ named (lostIn from to) xs e
-  first-lost = rw (add-zero (startOf e)) at (says .first)
+  first-lost = says .first ∙ ap (λ (c : ℕ). lostIn from to (inElement e) (getD xs c 0)) (add-zero (startOf e))
 
-  pub column-lost : e ≤ lastOf to → (i : ℕ) → i < widthOf e → cond (lostIn from to (startOf e + i) (byte i)) 32 (byte i) ≡ cond (lostAt from to xs e) 32 (byte i)
-  column-lost k i m = says .every-column k i m
+  pub column-lost : e ≤ lastOf to → (i : ℕ) → i < widthOf e → cond (lostIn from to (inColumn (startOf e + i)) (byte i)) 32 (byte i) ≡ cond (lostAt from to xs e) 32 (byte i)
+  column-lost k i m = ap (λ (y : Bool). cond y 32 (byte i)) (gone i m) ∙ says .every-column k i m

@@ -16,13 +16,15 @@ use Rattle.layout.specs.declared.Edition.the-variants.{One, Three, Four}
 use Rattle.layout.specs.Editions.{lengthOf, lastOf}
 use Rattle.layout.specs.Page.{widthOf, startOf, textOf, legalText}
 use Rattle.layout.proofs.Elements.{last-below}
+use Rattle.layout.proofs.Columns.{filled}
+use Rattle.layout.proofs.Parts.{text-byte}
 use Rattle.layout.proofs.RecordLaws.{ends, text-long}
 use Rattle.hemispheres.specs.Digits.{isFirst}
 use Rattle.meanings.specs.Kept.{lostAt}
-use Rattle.blanking.specs.Columns.{blankedText, leaves, laterLost, sharedLost, lostIn, blanked}
+use Rattle.blanking.specs.LostBytes.{blankedText, inColumn, leaves, laterLost, sharedLost, lostIn, blanked}
 use Rattle.blanking.proofs.Blanked.{or-none, blanked-length, byte-at, same-blanked, then}
-use Rattle.blanking.proofs.Steps.{later-off}
-use Rattle.blanking.proofs.Lost.{text-byte, column-lost}
+use Rattle.blanking.proofs.Steps.{later-none}
+use Rattle.blanking.proofs.Lost.{column-lost}
 
 pub first-length : (ed : Edition) → isFirst ed ≡ true → lengthOf ed ≡ 131
 first-length One f = refl
@@ -46,7 +48,7 @@ module _ (from to : Edition) (xs : List ℕ) (full : length xs ≡ lengthOf to) 
       inside = omega (arith, ends to e h)
 
       left : length (textOf e (blanked (lostIn from to) xs)) ≡ widthOf e
-      left = text-long to (blanked (lostIn from to) xs) (blanked-length (lostIn from to) 0 xs ∙ full) e h
+      left = text-long to (blanked (lostIn from to) xs) (blanked-length (λ c. lostIn from to (inColumn c)) 0 xs ∙ full) e h
 
       right : (x : Bool) → length (cond x (spell (widthOf e) inBlanks) (textOf e xs)) ≡ widthOf e
       right true = spelled-length 1 32 (widthOf e) 0
@@ -58,7 +60,7 @@ module _ (from to : Edition) (xs : List ℕ) (full : length xs ≡ lengthOf to) 
 
       bytes : (i : ℕ) → i < widthOf e → getD (textOf e (blanked (lostIn from to) xs)) i 0 ≡ getD (cond (lostAt from to xs e) (spell (widthOf e) inBlanks) (textOf e xs)) i 0
       bytes i m =
-          text-byte (blanked (lostIn from to) xs) e i m ∙ byte-at (lostIn from to) xs (startOf e + i) (omega (arith, inside)) ∙
+          text-byte (blanked (lostIn from to) xs) e i m ∙ byte-at (λ c. lostIn from to (inColumn c)) xs (startOf e + i) (omega (arith, inside)) ∙
           column-lost from to xs e l (omega (arith, last-below to)) inside (each e l h) h i m ∙
           chosen (lostAt from to xs e) i m
 
@@ -67,10 +69,11 @@ module _ (from to : Edition) (xs : List ℕ) (full : length xs ≡ lengthOf to) 
   unfolding lostIn
   in-first f after g e l h =
       ap (textOf e)
-      (g ∙ same-blanked (sharedLost from to) (lostIn from to) 0 xs (λ j b m n. sym (ap (λ (x : Bool). sharedLost from to j b || x) (later-off j b (isFirst to) (leaves from to) (omega (arith, full, first-length to f))) ∙ or-none (sharedLost from to j b)))) ∙
+      (g ∙ same-blanked _ (λ c. lostIn from to (inColumn c)) 0 xs
+      (λ j b m n. sym (ap (λ (x : Bool). sharedLost from to (inColumn j) b || x) (later-none j b (isFirst to) (leaves from to) (omega (arith, full, filled One, first-length to f))) ∙ or-none (sharedLost from to (inColumn j) b)))) ∙
       row-text e l h
 
   pub in-others : isFirst to ≡ false → (mid after : List ℕ) (x : Bool) → mid ≡ blanked (sharedLost from to) xs → x ≡ leaves from to → after ≡ blanked (laterLost false x) mid →
       (e : ℕ) → 1 ≤ e → e ≤ lastOf to → textOf e after ≡ blankedText from to xs e
   unfolding lostIn
-  in-others f mid after x g y k e l h = ap (textOf e) (then (sharedLost from to) (laterLost false x) xs mid after g k ∙ same-blanked _ (lostIn from to) 0 xs (λ j b m n. rw (f, y))) ∙ row-text e l h
+  in-others f mid after x g y k e l h = ap (textOf e) (then (sharedLost from to) (laterLost false x) xs mid after g k ∙ same-blanked _ (λ c. lostIn from to (inColumn c)) 0 xs (λ j b m n. rw (f, y))) ∙ row-text e l h

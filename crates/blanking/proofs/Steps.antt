@@ -1,75 +1,109 @@
--- Columns in which a step loses nothing, and those in which one step alone does. Assumes nothing.
-use mathlib.Core.Path.{_≡_, refl, _∙_}
-use mathlib.Core.Bool.{Bool, true, false, _&&_, _||_}
-use mathlib.Core.Logic.{_⊎_, inl, inr, ⊎-elim}
+-- Elements in which a step loses nothing, and those in which one step alone does; and that a column asks as its element does. Assumes nothing.
+use mathlib.Core.Path.{_≡_, refl, sym, ap₂, _∙_, fun-ext}
+use mathlib.Core.Bool.{Bool, true, false, _&&_}
+use mathlib.Core.Logic.{_⊎_, inl, inr}
 use Prim.Native.Nat.{ℕ, _+_, _<_, _≤_}
 use native.Mathlib.Omega.{arith}
+use borrow.Author.Tests.{leb-true, leb-false, le-leb, lt-leb, lt-ltb, le-ltb}
+use lib.Dec.{leb, ltb}
 use Rattle.text.specs.Bytes.{between}
+use Rattle.text.proofs.Ways.{decide}
 use Rattle.layout.specs.declared.Edition.{Edition}
+use Rattle.layout.specs.Page.{widthOf, startOf}
+use Rattle.layout.proofs.Columns.{start-next, start-rises}
 use Rattle.hemispheres.specs.Digits.{isFirst, crosses}
-use Rattle.blanking.specs.Columns.{leaves, run, codesLost, countryLost, versionLost, flagsLost, laterLost, sharedLost, lostIn}
-use Rattle.blanking.proofs.Blanked.{or-none, within, beside}
+use Rattle.blanking.specs.LostBytes.{inElement, inColumn, leaves, some, codesLost, countryLost, versionLost, flagsLost, laterLost, sharedLost, lostIn}
+use Rattle.blanking.proofs.Blanked.{or-none}
 
 pub and-none : (x : Bool) → (x && false) ≡ false
 and-none true = refl
 and-none false = refl
 
-module _ (c b : ℕ) where
+-- a column of an element
+module _ (e i : ℕ) (h : i < widthOf e) where
+  begins : (first : ℕ) → leb (startOf first) (startOf e + i) ≡ leb first e
+  begins first =
+      decide (leb first e) (λ t. le-leb (startOf first) (startOf e + i) (omega (arith, start-rises first e (leb-true first e t))) ∙ sym t)
+      (λ t. lt-leb (startOf first) (startOf e + i) (omega (arith, start-next e, start-rises (e + 1) first (omega (arith, leb-false first e t)))) ∙ sym t)
+
+  ends : (last : ℕ) → ltb (startOf e + i) (startOf (last + 1)) ≡ leb e last
+  ends last =
+      decide (leb e last) (λ t. lt-ltb (startOf e + i) (startOf (last + 1)) (omega (arith, start-next e, start-rises (e + 1) (last + 1) (omega (arith, leb-true e last t)))) ∙ sym t)
+      (λ t. le-ltb (startOf e + i) (startOf (last + 1)) (omega (arith, start-rises (last + 1) e (omega (arith, leb-false e last t)))) ∙ sym t)
+
+  pub same-spot : inColumn (startOf e + i) ≡ inElement e
+  same-spot = fun-ext (λ first. fun-ext (λ last. ap₂ _&&_ (begins first) (ends last)))
+
+-- before edition 1's last element nothing is lost of the others
+pub later-none : (c b : ℕ) (first x : Bool) → c < startOf 86 → laterLost first x (inColumn c) b ≡ false
+unfolding laterLost
+later-none c b true x h = rw (lt-leb (startOf 86) c h, lt-leb (startOf 94) c (omega (arith, start-rises 86 94 (omega arith))))
+later-none c b false x h = rw (lt-leb (startOf 86) c h, lt-leb (startOf 94) c (omega (arith, start-rises 86 94 (omega arith)))) (and-none x)
+
+module _ (e b : ℕ) where
   abbrev Apart : ℕ → ℕ → Type 0
-  Apart i j = (c < i) ⊎ (j ≤ c)
+  Apart i j = (e < i) ⊎ (j < e)
 
-  off : (i n lo hi j k : ℕ) → j ≤ i → i + n ≤ k → Apart j k → run i n lo hi c b ≡ false
-  off i n lo hi j k l m a = beside i n lo hi c b (⊎-elim (λ h. inl (omega arith)) (λ h. inr (omega arith)) a)
+  pub within : (first last lo hi : ℕ) → first ≤ e → e ≤ last → some first last lo hi (inElement e) b ≡ between lo hi b
+  within first last lo hi h l = rw (le-leb first e h, le-leb e last l)
 
-  pub codes-off : (x : Bool) → Apart 69 71 → codesLost x c b ≡ false
+  pub off : (first last lo hi i j : ℕ) → i ≤ first → last ≤ j → Apart i j → some first last lo hi (inElement e) b ≡ false
+  off first last lo hi i j l m (inl h) = rw (lt-leb first e (omega arith))
+  off first last lo hi i j l m (inr h) = rw (lt-leb e last (omega arith)) (none (leb first e))
+    where
+      none : (x : Bool) → ((x && false) && between lo hi b) ≡ false
+      none true = refl
+      none false = refl
+
+  pub codes-off : (x : Bool) → Apart 40 41 → codesLost x (inElement e) b ≡ false
   unfolding codesLost
-  codes-off x a = rw (off 69 1 49 49 69 71 (omega arith) (omega arith) a, off 69 1 52 52 69 71 (omega arith) (omega arith) a, off 70 1 52 52 69 71 (omega arith) (omega arith) a, off 70 1 55 57 69 71 (omega arith) (omega arith) a) (and-none x)
+  codes-off x a = rw (off 40 40 49 49 40 41 (omega arith) (omega arith) a, off 40 40 52 52 40 41 (omega arith) (omega arith) a, off 41 41 52 52 40 41 (omega arith) (omega arith) a, off 41 41 55 57 40 41 (omega arith) (omega arith) a) (and-none x)
 
-  pub country-off : (x : Bool) → Apart 78 80 → countryLost x c b ≡ false
+  pub country-off : (x : Bool) → Apart 43 43 → countryLost x (inElement e) b ≡ false
   unfolding countryLost
-  country-off x a = rw (beside 78 2 33 126 c b a) (and-none x)
+  country-off x a = rw (off 43 43 33 126 43 43 (omega arith) (omega arith) a) (and-none x)
 
-  pub version-off : (x : Bool) → Apart 109 110 → versionLost x c b ≡ false
+  pub version-off : (x : Bool) → Apart 64 64 → versionLost x (inElement e) b ≡ false
   unfolding versionLost
-  version-off x a = rw (off 109 1 57 57 109 110 (omega arith) (omega arith) a, off 109 1 65 65 109 110 (omega arith) (omega arith) a) (and-none x)
+  version-off x a = rw (off 64 64 57 57 64 64 (omega arith) (omega arith) a, off 64 64 65 65 64 64 (omega arith) (omega arith) a) (and-none x)
 
-  pub flags-off : (x : Bool) → Apart 111 131 → flagsLost x c b ≡ false
+  pub flags-off : (x : Bool) → Apart 66 85 → flagsLost x (inElement e) b ≡ false
   unfolding flagsLost
-  flags-off x a = rw (off 111 8 54 55 111 131 (omega arith) (omega arith) a, off 119 8 54 55 111 131 (omega arith) (omega arith) a, off 123 8 54 55 111 131 (omega arith) (omega arith) a) (and-none x)
+  flags-off x a = rw (off 66 73 54 55 66 85 (omega arith) (omega arith) a, off 74 81 54 55 66 85 (omega arith) (omega arith) a, off 78 85 54 55 66 85 (omega arith) (omega arith) a) (and-none x)
 
-  pub later-off : (first x : Bool) → c < 131 → laterLost first x c b ≡ false
+  pub later-off : (first x : Bool) → e < 86 → laterLost first x (inElement e) b ≡ false
   unfolding laterLost
-  later-off true x h = rw (beside 131 20 33 126 c b (inl h), beside 151 8 33 126 c b (inl (omega arith)))
-  later-off false x h = rw (beside 131 1 54 54 c b (inl h), beside 151 8 54 55 c b (inl (omega arith))) (and-none x)
+  later-off true x h = rw (off 86 93 33 126 86 101 (omega arith) (omega arith) (inl h), off 94 101 33 126 86 101 (omega arith) (omega arith) (inl h))
+  later-off false x h = rw (off 86 86 54 54 86 101 (omega arith) (omega arith) (inl h), off 94 101 54 55 86 101 (omega arith) (omega arith) (inl h)) (and-none x)
 
   module _ (from to : Edition) where
-    pub shared-off : Apart 69 71 → Apart 78 80 → Apart 109 110 → Apart 111 131 → sharedLost from to c b ≡ false
+    pub shared-off : Apart 40 41 → Apart 43 43 → Apart 64 64 → Apart 66 85 → sharedLost from to (inElement e) b ≡ false
     unfolding sharedLost
     shared-off p q r s = rw (codes-off _ p, country-off _ q, version-off _ r, flags-off _ s)
 
-    -- the columns of the elements that no recast loses
-    pub none-early : c < 69 → lostIn from to c b ≡ false
+    -- the elements that no recast loses
+    pub none-early : e ≤ 39 → lostIn from to (inElement e) b ≡ false
     unfolding lostIn
-    none-early h = rw (shared-off (inl h) (inl (omega arith)) (inl (omega arith)) (inl (omega arith)), later-off _ _ (omega arith))
+    none-early h = rw (shared-off (inl (omega arith)) (inl (omega arith)) (inl (omega arith)) (inl (omega arith)), later-off _ _ (omega arith))
 
-    pub none-between : 71 ≤ c → c < 109 → Apart 78 80 → lostIn from to c b ≡ false
+    pub none-between : 42 ≤ e → e ≤ 63 → Apart 43 43 → lostIn from to (inElement e) b ≡ false
     unfolding lostIn
-    none-between l h a = rw (shared-off (inr l) a (inl h) (inl (omega arith)), later-off _ _ (omega arith))
+    none-between l h a = rw (shared-off (inr l) a (inl (omega arith)) (inl (omega arith)), later-off _ _ (omega arith))
 
-    -- those of the elements that edition 1 does not have
-    pub in-later : 131 ≤ c → lostIn from to c b ≡ laterLost (isFirst to) (leaves from to) c b
+    -- those that edition 1 does not have
+    pub in-later : 86 ≤ e → lostIn from to (inElement e) b ≡ laterLost (isFirst to) (leaves from to) (inElement e) b
     unfolding lostIn
     in-later h = rw (shared-off (inr (omega arith)) (inr (omega arith)) (inr (omega arith)) (inr h))
 
-    pub none-later : 132 ≤ c → c < 151 → isFirst to ≡ false → lostIn from to c b ≡ false
+    pub none-later : 87 ≤ e → e ≤ 93 → isFirst to ≡ false → lostIn from to (inElement e) b ≡ false
     unfolding laterLost
-    none-later l h f = in-later (omega arith) ∙ rw (f, beside 131 1 54 54 c b (inr l), beside 151 8 54 55 c b (inl h)) (and-none (leaves from to))
+    none-later l h f = in-later (omega arith) ∙ rw (f, off 86 86 54 54 86 86 (omega arith) (omega arith) (inr l), off 94 101 54 55 94 101 (omega arith) (omega arith) (inl (omega arith))) (and-none (leaves from to))
 
-    pub all-later : 132 ≤ c → c < 151 → isFirst to ≡ true → lostIn from to c b ≡ between 33 126 b
+    pub all-later : 87 ≤ e → e ≤ 93 → isFirst to ≡ true → lostIn from to (inElement e) b ≡ between 33 126 b
     unfolding laterLost
-    all-later l h f = in-later (omega arith) ∙ rw (f, within 131 20 33 126 c b (omega arith) (omega arith), beside 151 8 33 126 c b (inl h)) (or-none (between 33 126 b))
+    all-later l h f = in-later (omega arith) ∙ rw (f, within 86 93 33 126 (omega arith) h, off 94 101 33 126 94 101 (omega arith) (omega arith) (inl (omega arith))) (or-none (between 33 126 b))
 
-    pub country-in : 78 ≤ c → c < 80 → lostIn from to c b ≡ (crosses from to && between 33 126 b)
+    pub country-in : e ≡ 43 → lostIn from to (inElement e) b ≡ (crosses from to && between 33 126 b)
     unfolding lostIn sharedLost countryLost
-    country-in l h =
-        rw (codes-off _ (inr (omega arith)), version-off _ (inl (omega arith)), flags-off _ (inl (omega arith)), later-off _ _ (omega arith), within 78 2 33 126 c b l h) (or-none _ ∙ or-none _ ∙ or-none _)
+    country-in q =
+        rw (codes-off _ (inr (omega arith)), version-off _ (inl (omega arith)), flags-off _ (inl (omega arith)), later-off _ _ (omega arith), within 43 43 33 126 (omega arith) (omega arith)) (or-none _ ∙ or-none _ ∙ or-none _)

@@ -1,8 +1,8 @@
--- Which byte of an element of one column is lost: antt computes over the page, for each two editions, that it is lost exactly where its column loses it. Assumes nothing.
-use mathlib.Core.Path.{_≡_, refl, sym, ap, _∙_}
-use mathlib.Core.Bool.{Bool, true, false, cond, not, _&&_, _||_, Bool·beq, true≢false}
+-- Which byte of an element of one column is lost: antt computes over the page, for each two editions, that it is lost exactly where the code loses it. Assumes nothing.
+use mathlib.Core.Path.{_≡_, refl, sym}
+use mathlib.Core.Bool.{Bool, true, false, not, _&&_, _||_, Bool·beq, true≢false}
 use mathlib.Core.List.{[], _∷_}
-use Prim.Native.Nat.{ℕ, _+_, _-_, _≤_}
+use Prim.Native.Nat.{ℕ, _-_, _≤_}
 use native.Mathlib.Omega.{arith}
 use borrow.Author.Tests.{eqb-true}
 use lib.Dec.{eqb, leb}
@@ -13,24 +13,21 @@ use Rattle.text.proofs.First.{all-of-none}
 use Rattle.text.proofs.Ways.{and-first, and-second}
 use Rattle.layout.specs.declared.Edition.{Edition}
 use Rattle.layout.specs.declared.Edition.the-variants.{One, Three, Four}
-use Rattle.layout.specs.Page.{page, element, columns, widthOf, startOf, legalText}
+use Rattle.layout.specs.Page.{page, element, widthOf, legalText}
 use Rattle.meanings.specs.Meaning.{senseOf, sourceSense, platformSense}
 use Rattle.meanings.specs.Kept.{keeps, lostText}
-use Rattle.blanking.specs.Columns.{codesLost, countryLost, versionLost, flagsLost, laterLost, sharedLost, lostIn}
+use Rattle.blanking.specs.LostBytes.{inElement, codesLost, countryLost, versionLost, flagsLost, laterLost, sharedLost, lostIn}
 
--- the elements of one column from 40 on, but those of columns 81 to 109, and their columns
+-- the elements of one column from 40 on, but 44 to 63
 abbrev pub alone : ℕ → Bool
 alone e = between 40 41 e || (between 64 86 e || leb 94 e)
 
-abbrev columnOf : ℕ → ℕ
-columnOf e = cond (leb e 41) (e + 29) (cond (leb e 86) (e + 45) (e + 57))
-
--- a byte that is legal alone is lost exactly where its column loses it
+-- a byte that is legal alone is lost exactly where the code loses it
 agrees : Edition → Edition → ℕ → ℕ → Bool
-agrees from to e b = not (legalText from e (b ∷ [])) || Bool·beq (lostText from to e (b ∷ [])) (lostIn from to (columnOf e) b)
+agrees from to e b = not (legalText from e (b ∷ [])) || Bool·beq (lostText from to e (b ∷ [])) (lostIn from to (inElement e) b)
 
 fits : Edition → Edition → ℕ → Bool
-fits from to e = not (alone e) || ((eqb (widthOf e) 1 && eqb (startOf e) (columnOf e)) && eqb (firstFrom (agrees from to e) 32 95) 0)
+fits from to e = not (alone e) || (eqb (widthOf e) 1 && eqb (firstFrom (agrees from to e) 32 95) 0)
 
 all-fit : (from to : Edition) → firstFrom (fits from to) 1 101 ≡ 0
 unfolding
@@ -39,8 +36,6 @@ unfolding
     fits
     element
     page
-    columns
-    startOf
     lostText
     keeps
     senseOf
@@ -78,16 +73,15 @@ same-as false true e = e
 same-as false false e = refl
 
 module _ (from to : Edition) (e : ℕ) (l : 1 ≤ e) (h : e ≤ 101) (a : alone e ≡ true) where
-  fit : ((eqb (widthOf e) 1 && eqb (startOf e) (columnOf e)) && eqb (firstFrom (agrees from to e) 32 95) 0) ≡ true
+  fit : (eqb (widthOf e) 1 && eqb (firstFrom (agrees from to e) 32 95) 0) ≡ true
   unfolding fits
   fit = imply (alone e) _ (all-of-none (fits from to) 1 101 (omega arith) (all-fit from to) e l (omega arith)) a
 
   pub narrow : widthOf e ≡ 1
-  narrow = eqb-true _ _ (and-first (eqb (widthOf e) 1) _ (and-first _ _ fit))
+  narrow = eqb-true _ _ (and-first _ _ fit)
 
-  pub alone-lost : (b : ℕ) → 32 ≤ b → b ≤ 126 → legalText from e (b ∷ []) ≡ true → lostText from to e (b ∷ []) ≡ lostIn from to (startOf e) b
+  pub alone-lost : (b : ℕ) → 32 ≤ b → b ≤ 126 → legalText from e (b ∷ []) ≡ true → lostText from to e (b ∷ []) ≡ lostIn from to (inElement e) b
   unfolding agrees
   alone-lost b low high legal =
-      let each = all-of-none (agrees from to e) 32 95 (omega arith) (eqb-true _ _ (and-second (eqb (widthOf e) 1 && eqb (startOf e) (columnOf e)) _ fit)) b low (omega arith) in
-      let place : startOf e ≡ columnOf e = eqb-true _ _ (and-second (eqb (widthOf e) 1) _ (and-first _ _ fit)) in
-      same-as _ _ (imply (legalText from e (b ∷ [])) _ each legal) ∙ ap (λ (c : ℕ). lostIn from to c b) (sym place)
+      let each = all-of-none (agrees from to e) 32 95 (omega arith) (eqb-true _ _ (and-second (eqb (widthOf e) 1) _ fit)) b low (omega arith) in
+      same-as _ _ (imply (legalText from e (b ∷ [])) _ each legal)

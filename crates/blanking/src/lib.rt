@@ -1,19 +1,20 @@
 // What a recast loses: blanked in a row of the target, and named as a set.
 //
 // All editions share columns, and the first byte of an element says whether it is lost. So both go by
-// columns: a few single ones, and the flags eight at a time. `lostIn` of specs/Columns.antt says which
+// bytes: a few elements alone, and the flags eight at a time. `lostIn` of specs/LostBytes.antt says which
 // byte is lost where; that it is lost exactly where `meanings` says so is proved in proofs/Table.antt.
 pub mod names;
 
 use layout::Edition;
+use layout::widths;
 ghost use mathlib.Core.Bool.{true, false, cond};
 ghost use mathlib.Core.Path.{_≡_};
-ghost use Prim.Native.Nat.{ℕ, _+_, _<_, _≤_};
+ghost use Prim.Native.Nat.{ℕ, _+_, _≤_};
 ghost use lib.ListN.{length};
 ghost use Rattle.text.specs.Bytes.{between};
 ghost use Rattle.layout.specs.Editions.{lengthOf, lastOf};
-ghost use Rattle.layout.specs.Page.{textOf, legalText};
-ghost use Rattle.blanking.specs.Columns.{blankedText, isFourth, changes, leaves, run, codesLost, countryLost, versionLost, flagsLost, laterLost, sharedLost, blanked};
+ghost use Rattle.layout.specs.Page.{startOf, textOf, legalText};
+ghost use Rattle.blanking.specs.LostBytes.{blankedText, isFourth, changes, leaves, run, blankedBy, some, codesLost, countryLost, versionLost, flagsLost, laterLost, sharedLost, blanked};
 
 // Is it edition 4?
 fn is_fourth(edition: Edition) -> bool
@@ -55,29 +56,29 @@ fn left(b: u8, lost: bool) -> u8
     if lost { b' ' } else { b }
 }
 
-// Blanks a byte from low to high in one column.
-fn blank_column(row: &mut [u8], at: usize, low: u8, high: u8)
-    requires { ⌜ (at < length (now row)) × (low ≤ high) ⌝ }
-    ensures { λ _. ⌜ now (row .exit) ≡ blanked (run at 1 low high) (now (row .entry)) ⌝ }
-{
-    let b = row[at];
-    row[at] = left(b, is_in(b, low, high));
-}
-
-// Blanks the bytes from low to high in eight columns.
-fn blank_run(row: &mut [u8], at: usize, low: u8, high: u8)
-    requires { ⌜ (at + 8 ≤ length (now row)) × (low ≤ high) ⌝ }
-    ensures { λ _. ⌜ now (row .exit) ≡ blanked (run at 8 low high) (now (row .entry)) ⌝ }
+// Blanks the bytes from low to high in n columns.
+fn blank_run(row: &mut [u8], at: usize, n: usize, low: u8, high: u8)
+    requires { ⌜ (at + n ≤ length (now row)) × (low ≤ high) ⌝ }
+    ensures { λ _. ⌜ now (row .exit) ≡ blankedBy (run at n low high) (now (row .entry)) ⌝ }
 {
     let mut k = 0;
-    while k < 8 {
+    while k < n {
         let b = row[at + k];
         row[at + k] = left(b, is_in(b, low, high));
         k += 1;
     }
 }
 
-// Blanks the codes of columns 70 and 71 that are lost.
+// Blanks the bytes from low to high of the elements from first to last.
+fn blank(row: &mut [u8], first: usize, last: usize, low: u8, high: u8)
+    requires { ⌜ ((first ≤ last) × (startOf (last + 1) ≤ length (now row))) × ((last ≤ 101) × (low ≤ high)) ⌝ }
+    ensures { λ _. ⌜ now (row .exit) ≡ blanked (some first last low high) (now (row .entry)) ⌝ }
+{
+    let at = widths::start_of(first);
+    blank_run(row, at, widths::start_of(last + 1) - at, low, high);
+}
+
+// Blanks the codes of elements 40 and 41 that are lost.
 fn blank_codes(row: &mut [u8], changed: bool)
     requires { ⌜ 131 ≤ length (now row) ⌝ }
     ensures { λ _. ⌜ now (row .exit) ≡ blanked (codesLost changed) (now (row .entry)) ⌝ }
@@ -85,10 +86,10 @@ fn blank_codes(row: &mut [u8], changed: bool)
     if !changed {
         return;
     }
-    blank_column(row, 69, b'1', b'1');
-    blank_column(row, 69, b'4', b'4');
-    blank_column(row, 70, b'4', b'4');
-    blank_column(row, 70, b'7', b'9');
+    blank(row, 40, 40, b'1', b'1');
+    blank(row, 40, 40, b'4', b'4');
+    blank(row, 41, 41, b'4', b'4');
+    blank(row, 41, 41, b'7', b'9');
 }
 
 // Blanks the country.
@@ -99,8 +100,7 @@ fn blank_country(row: &mut [u8], crossing: bool)
     if !crossing {
         return;
     }
-    blank_column(row, 78, 33, 126);
-    blank_column(row, 79, 33, 126);
+    blank(row, 43, 43, 33, 126);
 }
 
 // Blanks an FM code version that is lost.
@@ -111,8 +111,8 @@ fn blank_version(row: &mut [u8], back: bool)
     if !back {
         return;
     }
-    blank_column(row, 109, b'9', b'9');
-    blank_column(row, 109, b'A', b'A');
+    blank(row, 64, 64, b'9', b'9');
+    blank(row, 64, 64, b'A', b'A');
 }
 
 // Blanks the flags that are lost of those that every edition has.
@@ -123,9 +123,9 @@ fn blank_flags(row: &mut [u8], back: bool)
     if !back {
         return;
     }
-    blank_run(row, 111, b'6', b'7');
-    blank_run(row, 119, b'6', b'7');
-    blank_run(row, 123, b'6', b'7');
+    blank(row, 66, 73, b'6', b'7');
+    blank(row, 74, 81, b'6', b'7');
+    blank(row, 78, 85, b'6', b'7');
 }
 
 // Blanks what is lost of the elements that edition 1 does not have, where the target has them.
@@ -136,8 +136,8 @@ fn blank_later(row: &mut [u8], back: bool)
     if !back {
         return;
     }
-    blank_column(row, 131, b'6', b'6');
-    blank_run(row, 151, b'6', b'7');
+    blank(row, 86, 86, b'6', b'6');
+    blank(row, 94, 101, b'6', b'7');
 }
 
 // Blanks what is lost of the elements that every edition has.

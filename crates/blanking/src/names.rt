@@ -4,31 +4,25 @@ use crate::is_change;
 use crate::is_in;
 use crate::is_leaving;
 use layout::Edition;
+use layout::page;
 use losses::Losses;
 ghost use mathlib.Core.Bool.{true, false, cond};
 ghost use mathlib.Core.Path.{_≡_};
 ghost use Prim.Native.Nat.{ℕ, _+_, _*_, _^_, _<_, _≤_};
-ghost use lib.ListN.{length, getD};
+ghost use lib.ListN.{length};
 ghost use Rattle.text.specs.Bytes.{between};
 ghost use Rattle.losses.specs.Losses.{word, lossesOf};
 ghost use Rattle.layout.specs.Editions.{lengthOf, lastOf};
-ghost use Rattle.layout.specs.Page.{startOf, textOf, legalText};
+ghost use Rattle.layout.specs.Page.{startOf, textOf, firstByte, legalText};
 ghost use Rattle.hemispheres.specs.Digits.{isFirst};
 ghost use Rattle.meanings.specs.Kept.{lostAt};
-ghost use Rattle.blanking.specs.Columns.{leaves, codesLost, countryLost, versionLost, flagsLost, laterLost, named};
+ghost use Rattle.blanking.specs.LostBytes.{leaves, codesLost, countryLost, versionLost, flagsLost, laterLost, named};
 
 // The bit, where it is lost, and otherwise none.
 fn bit(lost: bool, mask: u8) -> u8
     ensures { λ r. ⌜ r ≡ cond lost mask 0 ⌝ }
 {
     if lost { mask } else { 0 }
-}
-
-// The same number, as wide as an index is.
-fn index(b: u8) -> usize
-    ensures { λ r. ⌜ r ≡ b ⌝ }
-{
-    b as usize
 }
 
 // The same number, as wide as a word is.
@@ -46,40 +40,28 @@ fn moved(w: u8, by: u64) -> u64
     wide(w) << by
 }
 
-// The bit of an element of one column whose byte is one from low to high.
-fn name_column(line: &[u8], at: usize, low: u8, high: u8, mask: u64) -> u64
-    requires { ⌜ (at < length (now line)) × (low ≤ high) ⌝ }
-    ensures { λ r. ⌜ r ≡ cond (between low high (getD (now (line .entry)) at 0)) mask 0 ⌝ }
+// The bit of an element whose first byte is one from low to high.
+fn name_one(line: &[u8], e: usize, low: u8, high: u8, mask: u64) -> u64
+    requires { ⌜ (startOf e < length (now line)) × (low ≤ high) ⌝ }
+    ensures { λ r. ⌜ r ≡ cond (between low high (firstByte e (now (line .entry)))) mask 0 ⌝ }
 {
-    if is_in(line[at], low, high) { mask } else { 0 }
-}
-
-// The bits of eight elements of one column whose bytes are from low to high.
-fn name_run(line: &[u8], at: usize, low: u8, high: u8) -> u8
-    requires { ⌜ (at + 8 ≤ length (now line)) × (low ≤ high) ⌝ }
-    ensures { λ r. ⌜ r ≡ word (λ c. between low high (getD (now (line .entry)) c 0)) at 8 ⌝ }
-{
-    let masks = [1u8, 2, 4, 8, 16, 32, 64, 128];
-    let mut w: u8 = 0;
-    let mut k = 0;
-    while k < 8 {
-        w = w | bit(is_in(line[at + k], low, high), masks[k]);
-        k += 1;
+    if is_in(page::first_byte(line, e), low, high) {
+        mask
+    } else {
+        0
     }
-    w
 }
 
-// The bits of elements 86 to 93 that are filled, as the first byte of each says.
-fn name_starts(line: &[u8]) -> u8
-    requires { ⌜ 159 ≤ length (now line) ⌝ }
-    ensures { λ r. ⌜ r ≡ word (λ e. between 33 126 (getD (now (line .entry)) (startOf e) 0)) 86 8 ⌝ }
+// The bits of the eight elements from e on whose first bytes are from low to high.
+fn name_eight(line: &[u8], e: usize, low: u8, high: u8) -> u8
+    requires { ⌜ ((1 ≤ e) × (e ≤ 94)) × ((startOf (e + 8) ≤ length (now line)) × (low ≤ high)) ⌝ }
+    ensures { λ r. ⌜ r ≡ word (λ k. between low high (firstByte k (now (line .entry)))) e 8 ⌝ }
 {
     let masks = [1u8, 2, 4, 8, 16, 32, 64, 128];
-    let starts = [131u8, 132, 135, 138, 140, 142, 145, 148];
     let mut w: u8 = 0;
     let mut k = 0;
     while k < 8 {
-        w = w | bit(is_in(line[index(starts[k])], 33, 126), masks[k]);
+        w = w | bit(is_in(page::first_byte(line, e + k), low, high), masks[k]);
         k += 1;
     }
     w
@@ -93,9 +75,8 @@ fn name_codes(line: &[u8], changed: bool) -> u64
     if !changed {
         return 0;
     }
-    let source = name_column(line, 69, b'1', b'1', 1 << 39)
-        | name_column(line, 69, b'4', b'4', 1 << 39);
-    source | name_column(line, 70, b'4', b'4', 1 << 40) | name_column(line, 70, b'7', b'9', 1 << 40)
+    let source = name_one(line, 40, b'1', b'1', 1 << 39) | name_one(line, 40, b'4', b'4', 1 << 39);
+    source | name_one(line, 41, b'4', b'4', 1 << 40) | name_one(line, 41, b'7', b'9', 1 << 40)
 }
 
 // Element 43.
@@ -106,7 +87,7 @@ fn name_country(line: &[u8], crossing: bool) -> u64
     if !crossing {
         return 0;
     }
-    name_column(line, 78, 33, 126, 1 << 42)
+    name_one(line, 43, 33, 126, 1 << 42)
 }
 
 // Element 64.
@@ -117,7 +98,7 @@ fn name_version(line: &[u8], back: bool) -> u64
     if !back {
         return 0;
     }
-    name_column(line, 109, b'9', b'9', 1 << 63) | name_column(line, 109, b'A', b'A', 1 << 63)
+    name_one(line, 64, b'9', b'9', 1 << 63) | name_one(line, 64, b'A', b'A', 1 << 63)
 }
 
 // Elements 66 to 85.
@@ -128,9 +109,9 @@ fn name_flags(line: &[u8], back: bool) -> u64
     if !back {
         return 0;
     }
-    let first = moved(name_run(line, 111, b'6', b'7'), 1);
-    let second = moved(name_run(line, 119, b'6', b'7'), 9);
-    first | second | moved(name_run(line, 123, b'6', b'7'), 13)
+    let first = moved(name_eight(line, 66, b'6', b'7'), 1);
+    let second = moved(name_eight(line, 74, b'6', b'7'), 9);
+    first | second | moved(name_eight(line, 78, b'6', b'7'), 13)
 }
 
 // Elements 86 to 101 in a target that has them.
@@ -141,7 +122,7 @@ fn name_later(line: &[u8], back: bool) -> u64
     if !back {
         return 0;
     }
-    name_column(line, 131, b'6', b'6', 1 << 21) | moved(name_run(line, 151, b'6', b'7'), 29)
+    name_one(line, 86, b'6', b'6', 1 << 21) | moved(name_eight(line, 94, b'6', b'7'), 29)
 }
 
 // Elements 86 to 101 in a target that does not have them.
@@ -149,7 +130,7 @@ fn name_filled(line: &[u8]) -> u64
     requires { ⌜ 159 ≤ length (now line) ⌝ }
     ensures { λ r. ⌜ r ≡ word (named (laterLost true false) (now (line .entry))) 65 37 ⌝ }
 {
-    moved(name_starts(line), 21) | moved(name_run(line, 151, 33, 126), 29)
+    moved(name_eight(line, 86, 33, 126), 21) | moved(name_eight(line, 94, 33, 126), 29)
 }
 
 // Elements 86 to 101, which a record of edition 1 does not have.

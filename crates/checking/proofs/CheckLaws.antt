@@ -6,7 +6,7 @@ use Prim.Native.Nat.{ℕ, _≤_}
 use native.Mathlib.Omega.{arith}
 use lib.Dec.{eqb}
 use borrow.Author.Tests.{eq-eqb, ne-eqb, eqb-true}
-use lib.ListN.{length, getD}
+use lib.ListN.{length}
 use Rattle.text.specs.First.{firstOf}
 use Rattle.layout.specs.declared.Edition.{Edition}
 use Rattle.layout.specs.declared.Named.{Named}
@@ -14,12 +14,13 @@ use Rattle.layout.specs.declared.Named.the-variants.{Known}
 use Rattle.layout.specs.declared.Refusal.{Refusal}
 use Rattle.layout.specs.declared.Refusal.the-variants.{Length, Unprintable, Format, EditionLength, Illegal, Broken}
 use Rattle.layout.specs.Editions.{editionOf, lengthOf, lastOf}
-use Rattle.layout.specs.Page.{legal}
+use Rattle.layout.specs.Page.{firstByte, legal}
+use Rattle.layout.proofs.Demand2Columns.{column-1, column-111}
 use Rattle.ties.specs.Ties.{firstBroken}
 use Rattle.checking.specs.declared.Answer.{Answer}
 use Rattle.checking.specs.declared.Answer.the-variants.{Accepted, Refused}
 use Rattle.checking.specs.Check.{knownLength, knownFormat, printableAt, named, column, refusedAt, checkedIn, checked}
-use Rattle.checking.proofs.Placed.{column-at}
+use Rattle.checking.proofs.Placed.{first-of}
 
 -- a place was found, or none was
 pub found : (r : ℕ → Refusal) (p : ℕ) (next : Answer) → (p ≡ 0 → ⊥) → Refused (r p) ≡ refusedAt r p next
@@ -64,16 +65,16 @@ module _ (xs : List ℕ) (r : Bool) (e : r ≡ knownLength (length xs)) where
     unfolding checked
     unprintable k = rw (← e, h, ← f) (found Unprintable c _ k)
 
-    module _ (z : c ≡ 0) (t : Bool) (g : t ≡ knownFormat (getD xs 0 0)) where
-      column-1 : t ≡ knownFormat (column 1 xs)
-      column-1 = g ∙ ap knownFormat (sym (column-at xs 1 (omega arith) (omega (arith, long-enough h))))
+    module _ (z : c ≡ 0) (t : Bool) (g : t ≡ knownFormat (firstByte 1 xs)) where
+      format : t ≡ knownFormat (column 1 xs)
+      format = g ∙ ap knownFormat (sym (first-of xs 1 1 column-1 (omega (arith, long-enough h))))
 
       pub unknown-format : t ≡ false → Refused Format ≡ checked xs
       unfolding checked
-      unknown-format k = rw (← e, h, ← f, ← column-1, k) (nowhere Unprintable c _ z)
+      unknown-format k = rw (← e, h, ← f, ← format, k) (nowhere Unprintable c _ z)
 
-      pub by-edition : t ≡ true → (m : Named) → m ≡ editionOf (getD xs 110 0) → checkedIn m xs ≡ checked xs
+      pub by-edition : t ≡ true → (m : Named) → m ≡ editionOf (firstByte 65 xs) → checkedIn m xs ≡ checked xs
       unfolding checked
       by-edition k m n =
-          let o : m ≡ named xs = n ∙ ap editionOf (sym (column-at xs 111 (omega arith) (omega (arith, long-enough h)))) in
-          rw (← e, h, ← f, ← column-1, k, ← o) (nowhere Unprintable c _ z)
+          let o : m ≡ named xs = n ∙ ap editionOf (sym (first-of xs 65 111 column-111 (omega (arith, long-enough h)))) in
+          rw (← e, h, ← f, ← format, k, ← o) (nowhere Unprintable c _ z)

@@ -11,11 +11,12 @@ use Rattle.layout.specs.declared.Edition.{Edition}
 use Rattle.layout.specs.Editions.{lengthOf, lastOf, editionOf}
 use Rattle.layout.specs.Page.{legal}
 use Rattle.layout.proofs.Beyond.{last-above}
+use Rattle.layout.proofs.Demand2Columns.{column-1, column-111}
 use Rattle.layout.proofs.RecordLaws.{shortest}
 use Rattle.ties.specs.Ties.{tie}
 use Rattle.checking.specs.Check.{knownFormat}
 use Rattle.checking.specs.Acceptable.{Acceptable}
-use Rattle.checking.proofs.Placed.{column-at}
+use Rattle.checking.proofs.Placed.{column-at, first-of}
 use Rattle.checking.proofs.PrintLaws.{record-prints, format-digit, edition-digit}
 
 pub legal-record : (ed : Edition) (xs : List ℕ) → length xs ≡ lengthOf ed → ((e : ℕ) → 1 ≤ e → e ≤ lastOf ed → legal ed xs e ≡ true) →
@@ -24,10 +25,10 @@ legal-record ed xs long lawful tied =
     let short = shortest ed in
     let prints = record-prints ed xs long lawful in
     record {
-      names = ap editionOf (column-at xs 111 (omega arith) (omega arith)) ∙ edition-digit ed xs (omega arith) (lawful 65 (omega arith) (omega (arith, last-above ed)));
+      names = ap editionOf (first-of xs 65 111 column-111 (omega arith)) ∙ edition-digit ed xs (omega arith) (lawful 65 (omega arith) (omega (arith, last-above ed)));
       full = long;
       prints = λ c h l. ap printable (column-at xs c h l) ∙ every-at printable xs prints (c - 1) (omega arith);
-      format = ap knownFormat (column-at xs 1 (omega arith) (omega arith)) ∙ format-digit ed xs (omega arith) (lawful 1 (omega arith) (omega (arith, last-above ed)));
+      format = ap knownFormat (first-of xs 1 1 column-1 (omega arith)) ∙ format-digit ed xs (omega arith) (lawful 1 (omega arith) (omega (arith, last-above ed)));
       lawful = lawful;
       tied = tied;
     }

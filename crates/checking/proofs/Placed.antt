@@ -2,12 +2,13 @@
 use mathlib.Core.Path.{_≡_, refl, sym, ap, _∙_}
 use mathlib.Core.Bool.{true}
 use mathlib.Core.List.{List, [], _∷_}
-use Prim.Native.Nat.{ℕ, zero, suc, _-_, _<_, _≤_}
+use Prim.Native.Nat.{ℕ, zero, suc, _+_, _-_, _<_, _≤_}
 use native.Mathlib.Nat.{le-of-suc-le-suc, not-suc-le-zero}
 use native.Mathlib.Omega.{arith}
 use lib.ListN.{length, getD, List·getD-eq-default}
 use lib.Dec.{eqb}
 use Rattle.text.specs.Bytes.{printable}
+use Rattle.layout.specs.Page.{startOf, firstByte}
 use Rattle.faults.specs.Faults.{no}
 use Rattle.faults.proofs.Joins.{is-none}
 use Rattle.checking.specs.Check.{column, printableAt}
@@ -25,6 +26,10 @@ pub column-at : (xs : List ℕ) (c : ℕ) → 1 ≤ c → c ≤ length xs → co
 unfolding column
 column-at xs zero h l = absurd (not-suc-le-zero h)
 column-at xs (suc c) h l = within xs c 32 0 l ∙ ap (λ (i : ℕ). getD xs i 0) (sym (index c))
+
+-- a column that document 01 speaks of, as the first byte of its element
+pub first-of : (xs : List ℕ) (e c : ℕ) → startOf e + 1 ≡ c → c ≤ length xs → column c xs ≡ firstByte e xs
+first-of xs e c at l = column-at xs c (omega arith) l ∙ ap (λ (i : ℕ). getD xs i 0) (omega arith)
 
 -- a column past the end is blank, and so is the column before the first
 pub column-none : (xs : List ℕ) (c : ℕ) → length xs < c → column c xs ≡ 32

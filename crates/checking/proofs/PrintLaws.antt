@@ -2,7 +2,7 @@
 use mathlib.Core.Path.{_≡_, refl, sym}
 use mathlib.Core.Bool.{Bool, true, false, cond, _&&_, _||_, true≢false}
 use mathlib.Core.List.{List, [], _∷_, _++_}
-use Prim.Native.Nat.{ℕ, zero, suc, _+_, _-_, _≤_}
+use Prim.Native.Nat.{ℕ, zero, suc, _+_, _-_, _<_, _≤_}
 use native.Mathlib.Numerals.{add-one}
 use native.Mathlib.Omega.{arith}
 use borrow.Author.Tests.{le-leb}
@@ -13,15 +13,16 @@ use Rattle.text.specs.Bytes.{every, between, printable, isDigit, isLetter, blan
 use Rattle.text.specs.Texts.{isSign, digitOr, allows}
 use Rattle.text.specs.declared.Texts.{Texts}
 use Rattle.text.specs.declared.Texts.the-variants.{Nothing, Printable, Letters, CallSign, DigitOr, Within, Either, OneOf}
-use Rattle.text.proofs.Parts.{one-column}
 use Rattle.text.proofs.Ranges.{least, greatest, wider}
 use Rattle.text.proofs.Ways.{and-first, and-second}
 use Rattle.layout.specs.declared.Edition.{Edition}
 use Rattle.layout.specs.declared.Edition.the-variants.{One, Three, Four}
 use Rattle.layout.specs.declared.Named.the-variants.{Known}
 use Rattle.layout.specs.Editions.{editionOf, lengthOf, lastOf}
-use Rattle.layout.specs.Page.{Element, page, none, elements, element, columns, widthOf, startOf, textOf, textsIn, textsOf, mayBeBlank, legal}
+use Rattle.layout.specs.Page.{Element, page, none, elements, element, columns, widthOf, startOf, textOf, firstByte, textsIn, textsOf, mayBeBlank, legal}
 use Rattle.layout.proofs.Columns.{start-next, filled}
+use Rattle.layout.proofs.Parts.{one-byte}
+use Rattle.layout.proofs.RecordLaws.{begins}
 
 pub every-append : (p : ℕ → Bool) (a b : List ℕ) → every p a ≡ true → every p b ≡ true → every p (a ++ b) ≡ true
 unfolding every
@@ -132,25 +133,29 @@ one-digit lo hi b t f e =
 
 -- elements 1 and 65 of a record in which they are legal
 module _ (ed : Edition) (xs : List ℕ) (long : 131 ≤ length xs) where
-  pub format-digit : legal ed xs 1 ≡ true → between 51 53 (getD xs 0 0) ≡ true
-  unfolding legal textOf startOf columns element page allows
+  -- which are of one column and may not be blank
+  single : (e lo hi : ℕ) → widthOf e ≡ 1 → startOf e < 131 → (digits (textOf e xs) && between lo hi (number (textOf e xs))) ≡ true → (48 + lo ≤ firstByte e xs) × (firstByte e xs ≤ 48 + hi)
+  single e lo hi w h k = one-digit lo hi (firstByte e xs) (textOf e xs) (one-byte xs e w (omega arith)) k
+
+  pub format-digit : legal ed xs 1 ≡ true → between 51 53 (firstByte 1 xs) ≡ true
+  unfolding legal element page allows
   format-digit h =
-      let r = one-digit 3 5 (getD xs 0 0) (take 1 (drop 0 xs)) (one-column xs 0 (omega arith)) (by ed h) in
-      rw (le-leb 51 (getD xs 0 0) (r .0), le-leb (getD xs 0 0) 53 (r .1))
+      let r = single 1 3 5 refl (begins One 1 (omega arith) (omega arith)) (by ed h) in
+      rw (le-leb 51 (firstByte 1 xs) (r .0), le-leb (firstByte 1 xs) 53 (r .1))
     where
-      by : (ed : Edition) → legal ed xs 1 ≡ true → (digits (take 1 (drop 0 xs)) && between 3 5 (number (take 1 (drop 0 xs)))) ≡ true
+      by : (ed : Edition) → legal ed xs 1 ≡ true → (digits (textOf 1 xs) && between 3 5 (number (textOf 1 xs))) ≡ true
       by One k = k
       by Three k = k
       by Four k = k
 
-  pub edition-digit : legal ed xs 65 ≡ true → editionOf (getD xs 110 0) ≡ Known ed
-  unfolding legal textOf startOf columns element page allows
+  pub edition-digit : legal ed xs 65 ≡ true → editionOf (firstByte 65 xs) ≡ Known ed
+  unfolding legal element page allows
   edition-digit h = by ed h
     where
-      exactly : (d : ℕ) → (digits (take 1 (drop 110 xs)) && between d d (number (take 1 (drop 110 xs)))) ≡ true → getD xs 110 0 ≡ 48 + d
-      exactly d k = let r = one-digit d d (getD xs 110 0) (take 1 (drop 110 xs)) (one-column xs 110 (omega arith)) k in omega arith
+      exactly : (d : ℕ) → (digits (textOf 65 xs) && between d d (number (textOf 65 xs))) ≡ true → firstByte 65 xs ≡ 48 + d
+      exactly d k = let r = single 65 d d refl (begins One 65 (omega arith) (omega arith)) k in omega arith
 
-      by : (ed : Edition) → legal ed xs 65 ≡ true → editionOf (getD xs 110 0) ≡ Known ed
+      by : (ed : Edition) → legal ed xs 65 ≡ true → editionOf (firstByte 65 xs) ≡ Known ed
       by One k = rw (exactly 1 k)
       by Three k = rw (exactly 3 k)
       by Four k = rw (exactly 4 k)

@@ -1,33 +1,26 @@
 -- What showing the call sign leans on. Assumes nothing.
 use mathlib.Core.Path.{_≡_, sym, ap, _∙_}
 use mathlib.Core.List.{List}
-use Prim.Native.Nat.{ℕ, _≤_}
+use Prim.Native.Nat.{ℕ, _+_, _≤_}
 use native.Mathlib.Omega.{arith}
-use lib.Dec.{lit≤}
-use lib.ListN.{length, take, drop}
+use lib.ListN.{length, take}
 use Rattle.text.specs.Bytes.{toLastNonBlank}
 use Rattle.layout.specs.declared.Edition.{Edition}
-use Rattle.layout.specs.declared.Edition.the-variants.{One, Three, Four}
-use Rattle.layout.specs.Editions.{lengthOf}
-use Rattle.layout.specs.Page.{textOf, startOf, element, columns, page}
+use Rattle.layout.specs.Page.{widthOf, startOf, textOf}
+use Rattle.layout.proofs.Beyond.{last-above}
+use Rattle.layout.proofs.RecordLaws.{ends}
 use Rattle.checking.specs.declared.Answer.{Answer}
 use Rattle.checking.specs.declared.Answer.the-variants.{Accepted}
 use Rattle.checking.specs.Check.{checked, callSignOf}
 use Rattle.checking.proofs.Demand2Acceptance.{accepted-exactly}
 
-at-least : (ed : Edition) → 131 ≤ lengthOf ed
-at-least One = lit≤ tt
-at-least Three = lit≤ tt
-at-least Four = lit≤ tt
+-- an accepted record has the columns of every element up to edition 1's last
+pub long : (xs : List ℕ) (ed : Edition) (a : Answer) → a ≡ checked xs → a ≡ Accepted ed → (e : ℕ) → e ≤ 85 → startOf e + widthOf e ≤ length xs
+long xs ed a e h k l = omega (arith, accepted-exactly xs ed .0 (sym e ∙ h) .full, ends ed k (omega (arith, last-above ed)))
 
--- an accepted record has the call sign's columns
-pub long : (xs : List ℕ) (ed : Edition) (a : Answer) → a ≡ checked xs → a ≡ Accepted ed → 131 ≤ length xs
-long xs ed a e h = omega (arith, accepted-exactly xs ed .0 (sym e ∙ h) .full, at-least ed)
-
-pub shown : (xs : List ℕ) (ed : Edition) (a : Answer) (n : ℕ) → a ≡ checked xs → a ≡ Accepted ed → take n (take 7 (drop 71 xs)) ≡ toLastNonBlank (take 7 (drop 71 xs)) →
-    take n (take 7 (drop 71 xs)) ≡ callSignOf (checked xs) xs
-unfolding callSignOf textOf startOf element columns page
-shown xs ed a n e h f = f ∙ ap (λ (q : Answer). callSignOf q xs) (sym h ∙ e)
+pub shown : (xs t : List ℕ) (ed : Edition) (a : Answer) (n : ℕ) → a ≡ checked xs → a ≡ Accepted ed → t ≡ textOf 42 xs → take n t ≡ toLastNonBlank t → take n t ≡ callSignOf (checked xs) xs
+unfolding callSignOf
+shown xs t ed a n e h g f = f ∙ ap toLastNonBlank g ∙ ap (λ (q : Answer). callSignOf q xs) (sym h ∙ e)
 
 pub hidden : (xs : List ℕ) (a b : Answer) → a ≡ checked xs → a ≡ b → callSignOf b xs ≡ callSignOf (checked xs) xs
 hidden xs a b e h = ap (λ (q : Answer). callSignOf q xs) (sym h ∙ e)

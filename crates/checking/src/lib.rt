@@ -6,6 +6,7 @@ use faults::strays;
 use layout::Edition;
 use layout::Named;
 use layout::Refusal;
+use layout::page;
 ghost use mathlib.Core.Path.{_≡_};
 ghost use lib.ListN.{length};
 ghost use Rattle.text.specs.First.{firstOf};
@@ -68,7 +69,7 @@ fn check_in(edition: Edition, line: &[u8]) -> Answer
     if line.len() != edition.length() {
         return Answer::Refused(Refusal::EditionLength);
     }
-    let e = layout::page::first_illegal(edition, line);
+    let e = page::first_illegal(edition, line);
     if e != 0 {
         return Answer::Refused(Refusal::Illegal(e));
     }
@@ -90,10 +91,10 @@ fn check_in_order(line: &[u8]) -> Answer
     if c != 0 {
         return Answer::Refused(Refusal::Unprintable(c));
     }
-    if strays(line[0], b'3', b'5') != 0 {
+    if strays(page::first_byte(line, 1), b'3', b'5') != 0 {
         return Answer::Refused(Refusal::Format);
     }
-    match Edition::of_digit(line[110]) {
+    match Edition::of_digit(page::first_byte(line, 65)) {
         Named::Known(edition) => check_in(edition, line),
         Named::Unknown => Answer::Refused(Refusal::Version),
     }
@@ -117,7 +118,7 @@ pub fn show_call_sign(line: &[u8]) -> &[u8]
 {
     match check(line) {
         Answer::Accepted(_) => {
-            let part = &line[71..78];
+            let part = page::full_text(line, 42);
             let n = text::filled(part);
             &part[..n]
         }

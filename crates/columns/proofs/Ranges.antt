@@ -1,14 +1,14 @@
 -- From sixteen columns against rows of characters to columns of the page, where the rows are the page's. Assumes nothing.
 use mathlib.Core.Path.{_≡_, refl, sym, ap, _∙_, subst}
 use mathlib.Core.Bool.{Bool, true, false, not, Bool·beq}
-use mathlib.Core.List.{List, [], _∷_, map}
+use mathlib.Core.List.{List, map}
 use Prim.Native.Nat.{ℕ, _+_, _-_, _<_, _≤_}
 use native.Mathlib.Nat.{le-refl}
 use native.Mathlib.Omega.{arith}
 use borrow.Author.Tests.{ltb-true, ltb-false}
 use lib.Bits.{bitOr}
 use lib.Dec.{eqb, ltb}
-use lib.ListN.{getD, take, drop, List·getD-map}
+use lib.ListN.{length, getD, drop, List·getD-map}
 use lib.Seq.{getD-take, getD-drop}
 use Rattle.layout.specs.declared.Edition.{Edition}
 use Rattle.layout.specs.declared.Edition.the-variants.{One, Three, Four}
@@ -70,8 +70,11 @@ unfolding joined
 last-of ed xs k h b j l t = let here : k ≡ j = omega arith in subst (Column ed xs) here (record { held = h; bound = rw b (second-holds (Bool·beq (not (eqb (getD xs k 0) 32)) (not (eqb (getD xs (k + 1) 0) 32))) _ refl) })
 
 -- sixteen columns and the one after them, which is the last
-pub to-last : (ed : Edition) (xs : List ℕ) (from k : ℕ) (p o : ℕ) → (p ≡ 0 → Range ed xs from k) → o ≡ no (fits (cellAt ed k) (getD xs k 0)) → bondAt k ≡ 46 → bitOr p o ≡ 0 → Range ed xs from (k + 1)
-to-last ed xs from k p o f g b z = onward k k (f (or-left p o z)) (last-of ed xs k (passed _ g (or-right p o z)) b) (le-refl k)
+pub to-last : (ed : Edition) (xs : List ℕ) (from k : ℕ) (p o : ℕ) → length xs ≡ k + 1 → (p ≡ 0 → Range ed xs from k) → o ≡ no (fits (cellAt ed k) (getD xs (length xs - 1) 0)) → bondAt k ≡ 46 → bitOr p o ≡ 0 →
+    Range ed xs from (k + 1)
+to-last ed xs from k p o l f g b z =
+    let here : length xs - 1 ≡ k = omega arith in
+    onward k k (f (or-left p o z)) (last-of ed xs k (passed _ (g ∙ ap (λ (i : ℕ). no (fits (cellAt ed k) (getD xs i 0))) here) (or-right p o z)) b) (le-refl k)
 
 -- all columns, from those that are shared and an edition's own
 pub cover : (ed : Edition) (xs : List ℕ) → Shared xs → Own ed xs → Columns ed xs

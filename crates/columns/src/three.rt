@@ -71,7 +71,7 @@ fn last(line: &[u8]) -> u8
         *b"9999999999999999",
         *b"==.==.==........",
     )
-        | outside(line[158], 48, 53, 57, 57)
+        | outside(line[line.len() - 1], 48, 53, 57, 57)
 }
 
 // 0 only where the columns hold what they may that are edition 3's own.

@@ -31,21 +31,21 @@ pub fn equal(a: u8, b: u8) -> u8
 }
 
 // Is the number above the other?
-pub fn above(a: u32, b: u32) -> u8
+pub fn above(a: u64, b: u64) -> u8
     ensures { λ r. ⌜ r ≡ no (leb a b) ⌝ }
 {
     if a <= b { 0 } else { 1 }
 }
 
 // Does the number reach up to the other, or past it?
-pub fn reaches(a: u32, b: u32) -> u8
+pub fn reaches(a: u64, b: u64) -> u8
     ensures { λ r. ⌜ r ≡ no (not (leb b a)) ⌝ }
 {
     if b <= a { 1 } else { 0 }
 }
 
 // Is it the same number?
-pub fn same(a: u32, b: u32) -> u8
+pub fn same(a: u64, b: u64) -> u8
     ensures { λ r. ⌜ r ≡ no (not (eqb a b)) ⌝ }
 {
     if a == b { 1 } else { 0 }

@@ -8,21 +8,20 @@ use Prim.Native.Nat.{ℕ, zero, suc, _+_, _-_, _<_, _≤_}
 use native.Mathlib.Omega.{arith}
 use borrow.Author.Tests.{eqb-true}
 use lib.Dec.{eqb}
-use lib.ListN.{length, getD, take, drop}
-use lib.Seq.{getD-take, getD-drop}
+use lib.ListN.{length, getD}
 use Rattle.text.specs.Bytes.{every, valueFrom, word, run}
 use Rattle.text.specs.Texts.{allows, member}
 use Rattle.text.proofs.Ways.{and-first, and-second, second-holds, decide, imply}
 use Rattle.text.proofs.Among.{either-half}
 use Rattle.text.proofs.Below.{everyBelow, passes-below}
-use Rattle.text.proofs.Parts.{one-column}
 use Rattle.numerals.specs.Spelling.{spelled}
 use Rattle.layout.specs.declared.Edition.{Edition}
 use Rattle.layout.specs.declared.Edition.the-variants.{One, Three, Four}
 use Rattle.layout.specs.declared.Named.{Named}
 use Rattle.layout.specs.declared.Named.the-variants.{Known, Unknown}
 use Rattle.layout.specs.Editions.{editionOf, lengthOf, lastOf}
-use Rattle.layout.specs.Page.{page, element, widthOf, columns, startOf, textOf, textsOf, mayBeBlank, legalText, legal}
+use Rattle.layout.specs.Page.{page, element, widthOf, columns, startOf, textOf, firstByte, textsOf, mayBeBlank, legalText, legal}
+use Rattle.layout.proofs.Parts.{text-byte, one-byte}
 use Rattle.layout.proofs.RecordLaws.{ends, text-long}
 use Rattle.columns.specs.Tables.{allowed, joined, cellOf, bonds, bondsFrom, bondAt, inside, after, fits, Columns}
 use Rattle.columns.proofs.Cells.{at-most-126, cell-at}
@@ -108,23 +107,23 @@ may-be : (m b a : Bool) → m ≡ true → (b || a) ≡ true → ((m && b) || a)
 may-be true b a e h = h
 may-be false b a e h = absurd (true≢false (sym e))
 
-module _ (ed : Edition) (xs : List ℕ) (full : length xs ≡ lengthOf ed) (named : editionOf (getD xs 110 0) ≡ Known ed) (cols : Columns ed xs) (nums : Limits (dates ++ (places ++ (winds ++ falls))) xs) (codes : Codes xs) (rest : Rest ed xs) where
-  quadrant-holds : (ed : Edition) → Rest ed xs → quadrant ed (getD xs 11 0) ≡ true
+module _ (ed : Edition) (xs : List ℕ) (full : length xs ≡ lengthOf ed) (named : editionOf (firstByte 65 xs) ≡ Known ed) (cols : Columns ed xs) (nums : Limits (dates ++ (places ++ (winds ++ falls))) xs) (codes : Codes xs) (rest : Rest ed xs) where
+  quadrant-holds : (ed : Edition) → Rest ed xs → quadrant ed (firstByte 6 xs) ≡ true
   unfolding quadrant
   quadrant-holds One l = refl
   quadrant-holds Three l = l .1 .0
   quadrant-holds Four l = l .1 .0
 
-  at-element : (P : ℕ → Type 0) (e k s : ℕ) → startOf k ≡ s → eqb e k ≡ true → P (getD xs s 0) → P (getD xs (startOf e) 0)
-  at-element P e k s i q h = rw (eqb-true e k q, i) h
+  at-element : (P : ℕ → Type 0) (e k : ℕ) → eqb e k ≡ true → P (firstByte k xs) → P (firstByte e xs)
+  at-element P e k q h = rw (eqb-true e k q) h
 
-  extra-holds : (e : ℕ) → extra ed e (getD xs (startOf e) 0) ≡ true
-  unfolding extra startOf columns page
+  extra-holds : (e : ℕ) → extra ed e (firstByte e xs) ≡ true
+  unfolding extra
   extra-holds e =
       held-if (eqb e 1 || eqb e 65) _ _
-      (λ t. ⊎-elim (λ q. at-element (λ b. not (eqb b 32) ≡ true) e 1 0 refl q (ap not (codes .0))) (λ q. at-element (λ b. not (eqb b 32) ≡ true) e 65 110 refl q (ap not (named-there ed (getD xs 110 0) named))) (either-half (eqb e 1) _ t))
-      (held-if (eqb e 46) _ _ (λ q. at-element (λ b. neither 50 51 b ≡ true) e 46 82 refl q (codes .1))
-      (held-if (eqb e 6) _ _ (λ q. at-element (λ b. quadrant ed b ≡ true) e 6 11 refl q (quadrant-holds ed rest)) refl))
+      (λ t. ⊎-elim (λ q. at-element (λ b. not (eqb b 32) ≡ true) e 1 q (ap not (codes .0))) (λ q. at-element (λ b. not (eqb b 32) ≡ true) e 65 q (ap not (named-there ed (firstByte 65 xs) named))) (either-half (eqb e 1) _ t))
+      (held-if (eqb e 46) _ _ (λ q. at-element (λ b. neither 50 51 b ≡ true) e 46 q (codes .1))
+      (held-if (eqb e 6) _ _ (λ q. at-element (λ b. quadrant ed b ≡ true) e 6 q (quadrant-holds ed rest)) refl))
 
   limits-of : (ed : Edition) → Rest ed xs → (e : ℕ) → member e (listed ed) ≡ true → Limited xs e
   limits-of One l e t = pick _ numbered nums e t
@@ -138,22 +137,17 @@ module _ (ed : Edition) (xs : List ℕ) (full : length xs ≡ lengthOf ed) (name
     held-at : (p : ℕ) → p < widthOf e → fits (cellOf (widthOf e) (textsOf ed e)) (getD xs (startOf e + p) 0) ≡ true
     held-at p l = rw (cell-at ed e p l) at (cols (startOf e + p) (place p l) .held)
 
-    text-at : (p : ℕ) → p < widthOf e → getD (textOf e xs) p 0 ≡ getD xs (startOf e + p) 0
-    unfolding textOf
-    text-at p l = getD-take (widthOf e) (drop (startOf e) xs) p 0 l ∙ getD-drop (startOf e) xs p 0
-
     -- an element of one column
     legal-single : widthOf e ≡ 1 → single ed e ≡ true → legal ed xs e ≡ true
-    unfolding single sound legal textOf
+    unfolding single sound legal
     legal-single w t =
-        let b = getD xs (startOf e) 0 in
+        let b = firstByte e xs in
         let here : getD xs (startOf e + 0) 0 ≡ b = ap (λ (i : ℕ). getD xs i 0) (omega arith) in
         let first : 0 < widthOf e = omega arith in
         let f : fits (cellOf 1 (textsOf ed e)) b ≡ true =
         ap (λ (n : ℕ). fits (cellOf n (textsOf ed e)) b) (sym w) ∙ ap (λ (x : ℕ). fits (cellOf (widthOf e) (textsOf ed e)) x) (sym here) ∙ held-at 0 first in
         let u : b ≤ 126 = omega (arith, here, at-most-126 ed (startOf e + 0) _ (cols (startOf e + 0) (place 0 first) .held)) in
-        let text : take (widthOf e) (drop (startOf e) xs) ≡ b ∷ [] =
-        ap (λ (n : ℕ). take n (drop (startOf e) xs)) w ∙ one-column xs (startOf e) (omega (arith, place 0 first, full)) in
+        let text : textOf e xs ≡ b ∷ [] = one-byte xs e w (omega (arith, place 0 first, full)) in
         ap (legalText ed e) text ∙ imply (fits (cellOf 1 (textsOf ed e)) b && extra ed e b) _ (passes-below 127 (sound ed e) t b (omega arith)) (rw (f, extra-holds e))
 
     -- a wider one
@@ -166,11 +160,11 @@ module _ (ed : Edition) (xs : List ℕ) (full : length xs ≡ lengthOf ed) (name
         may-be (mayBeBlank e) _ _ (and-first _ _ a)
         (legal-wide (textOf e xs) (textsOf ed e)
         (rw long (and-second (mayBeBlank e) _ a))
-        (λ p l. rw (long, text-at p (rw long at l)) (held-at p (rw long at l)))
+        (λ p l. rw (long, text-byte xs e p (rw long at l)) (held-at p (rw long at l)))
         (λ p l. let m : suc p < widthOf e = rw long at l in
         let i : startOf e + suc p ≡ startOf e + p + 1 = omega arith in
         let q : bondAt (startOf e + p) ≡ wanted (textsOf ed e) p = eqb-true _ _ (passes-below (widthOf e - 1) _ (and-first _ _ r) p (omega arith)) in
-        ap (λ (k : ℕ). joined k (getD (textOf e xs) p 0) (getD (textOf e xs) (suc p) 0)) (sym q) ∙ rw (text-at p (omega arith), text-at (suc p) m, i) (cols (startOf e + p) (place p (omega arith)) .bound))
+        ap (λ (k : ℕ). joined k (getD (textOf e xs) p 0) (getD (textOf e xs) (suc p) 0)) (sym q) ∙ rw (text-byte xs e p (omega arith), text-byte xs e (suc p) m, i) (cols (startOf e + p) (place p (omega arith)) .bound))
         (rw long (⊎-elim
         (λ x. rw x)
         (λ x. second-holds (unlimited (widthOf e) (textsOf ed e)) _ (same-limits _ _ (word (textOf e xs)) (and-second (member e (listed ed)) _ x) (limits-of ed rest e (and-first _ _ x))))

@@ -1,5 +1,4 @@
 -- Why a glance that finds nothing wrong is right.
-pub mod Words
 pub mod Wides
 pub mod Lawful
 pub mod MonthDays

@@ -1,13 +1,14 @@
 -- What the glance's tests say together: every element is legal and every tie holds. Assumes nothing.
 use mathlib.Core.Path.{_≡_, subst}
-use mathlib.Core.List.{List, _++_}
+use mathlib.Core.List.{List}
 use Prim.Native.Nat.{ℕ}
 use native.Mathlib.Omega.{arith}
-use lib.ListN.{length, getD}
+use lib.ListN.{length}
 use Rattle.layout.specs.declared.Edition.{Edition}
 use Rattle.layout.specs.declared.Named.{Named}
 use Rattle.layout.specs.declared.Named.the-variants.{Known, Unknown}
 use Rattle.layout.specs.Editions.{editionOf, lengthOf}
+use Rattle.layout.specs.Page.{firstByte}
 use Rattle.columns.specs.Tables.{Shared, Own}
 use Rattle.columns.proofs.Ranges.{cover}
 use Rattle.glance.specs.Sure.{dates, places, winds, falls, Alike, Rest, Sure}
@@ -22,7 +23,7 @@ pub said : (xs : List ℕ) (ed other : Edition) → Known ed ≡ Known other →
 said xs ed other e s = let f : ed ≡ other = cc in subst (λ (d : Edition). Sure d xs) f s
 
 -- all that the tests say, together
-pub surely-sound : (ed : Edition) (xs : List ℕ) → length xs ≡ lengthOf ed → editionOf (getD xs 110 0) ≡ Known ed → Shared xs → Alike xs → Own ed xs → Rest ed xs → Sure ed xs
+pub surely-sound : (ed : Edition) (xs : List ℕ) → length xs ≡ lengthOf ed → editionOf (firstByte 65 xs) ≡ Known ed → Shared xs → Alike xs → Own ed xs → Rest ed xs → Sure ed xs
 surely-sound ed xs full named s a o r =
     let cols = cover ed xs s o in
     let nums = join _ dates _ (a .0) (join _ places _ (a .1 .0) (join _ winds falls (a .1 .1 .0) (a .1 .1 .1 .0))) in

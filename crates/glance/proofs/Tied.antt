@@ -4,11 +4,12 @@ use mathlib.Core.Bool.{Bool, true, false, not, cond, _&&_, _||_, Bool·beq, true
 use mathlib.Core.List.{List, [], _∷_}
 use mathlib.Core.Logic.{_⊎_, ⊎-elim}
 use Prim.Native.Nat.{ℕ, zero, suc, _+_, _*_, _-_, _%_, _<_, _≤_}
+use native.Mathlib.Nat.{le-refl}
 use native.Mathlib.Omega.{arith}
 use borrow.Author.Tests.{eqb-true, eqb-false, ne-eqb, leb-true, le-leb, lt-leb, not-true}
 use lib.Dec.{eqb, leb}
 use lib.ListN.{length, getD, take, drop, length-drop, replicate}
-use lib.Seq.{getD-take, getD-drop, length-take-le}
+use lib.Seq.{take-suc, getD-drop}
 use Rattle.text.specs.Bytes.{every, between, blank, digits, number, word, valueFrom}
 use Rattle.text.specs.Texts.{allows, among}
 use Rattle.text.proofs.Ways.{and-first, and-second, second-holds, decide, imply}
@@ -17,24 +18,25 @@ use Rattle.text.proofs.Below.{everyBelow, passes-below}
 use Rattle.text.proofs.Blanks.{only-blank}
 use Rattle.text.proofs.Order.{zeros}
 use Rattle.text.proofs.Ranges.{greatest}
-use Rattle.text.proofs.Parts.{one-column}
 use Rattle.numerals.specs.Spelling.{spelled}
+use Rattle.numerals.proofs.Spellings.{value-last}
 use Rattle.layout.specs.declared.Edition.{Edition}
 use Rattle.layout.specs.declared.Edition.the-variants.{One, Three, Four}
 use Rattle.layout.specs.Editions.{lengthOf, lastOf}
 use Rattle.text.specs.declared.Texts.the-variants.{Within}
-use Rattle.layout.specs.Page.{page, element, columns, startOf, textOf, textsOf, mayBeBlank, legal}
-use Rattle.layout.proofs.Elements.{in-each}
-use Rattle.layout.proofs.RecordLaws.{shortest}
+use Rattle.layout.specs.Page.{page, element, widthOf, columns, startOf, textOf, firstByte, textsOf, mayBeBlank, legal}
+use Rattle.layout.proofs.Columns.{start-next, some-column}
+use Rattle.layout.proofs.Elements.{last-below, in-each}
+use Rattle.layout.proofs.Parts.{text-byte, one-byte}
+use Rattle.layout.proofs.RecordLaws.{ends, begins, text-long}
 use Rattle.layout.proofs.Beyond.{text-none, last-above}
 use Rattle.ties.specs.Ties.{there, placeTie, octantFits, octantTie, negative, signTie, lastDigit, tenthsFit, measuredFit, digitTie, windTie, dayTie, ties, tie}
 use Rattle.ties.proofs.Days.{in-every-year}
-use Rattle.columns.specs.Tables.{allowed, cellOf, cellsFrom, cells, cellAt, bonds, bondsFrom, bondAt, inside, after, fits, Columns}
+use Rattle.columns.specs.Tables.{allowed, joined, cellOf, cellsFrom, cells, cellAt, bonds, bondsFrom, bondAt, inside, after, fits, Columns}
 use Rattle.columns.proofs.Bonds.{after-blank, same-blank, first-says}
 use Rattle.columns.proofs.Cells.{at-most-126}
 use Rattle.glance.specs.Tests.{lastHighest, plusZero, topDigit, halfDigit, lastFits, needs, far, octantNear}
 use Rattle.glance.specs.Sure.{Degrees, Temperatures, InEveryYear, Rest}
-use Rattle.glance.proofs.Words.{number-more}
 use Rattle.glance.proofs.Wides.{spells, at-most, at-least}
 use Rattle.glance.proofs.MonthDays.{has-day}
 
@@ -74,6 +76,10 @@ sign-holds b v false l p q d z =
     let u : v ≡ replicate 3 48 = t ∙ ap (λ (n : ℕ). replicate n 48) l in
     minus-no b (getD v 0 0) (getD v 1 0) (getD v 2 0) z (ap (λ (w : List ℕ). getD w 0 0) u) (ap (λ (w : List ℕ). getD w 1 0) u) (ap (λ (w : List ℕ). getD w 2 0) u)))
 
+-- a column more of a number
+number-more : (xs : List ℕ) (at w : ℕ) → at + w < length xs → number (take (suc w) (drop at xs)) ≡ number (take w (drop at xs)) * 10 + (getD xs (at + w) 0 - 48)
+number-more xs at w h = rw (take-suc (drop at xs) w 0 (rw length-drop (omega arith)), getD-drop at xs w 0) (value-last 10 48 (take w (drop at xs)) (getD xs (at + w) 0))
+
 free : (x : Bool) → cond x true true ≡ true
 free true = refl
 free false = refl
@@ -92,57 +98,38 @@ digit-holds f b m n e h =
     nought : b ≤ 48 → lastDigit (number (f ∷ [])) n ≡ true
     nought l = let none : n % 10 ≡ 0 = omega arith in rw none (decide (eqb (number (f ∷ [])) 4) (λ x. rw x) (λ x. rw x (free (eqb (number (f ∷ [])) 5))))
 
+-- the n columns from s on each go with the next
+abbrev bonded : ℕ → ℕ → Bool
+bonded s n = everyBelow n (λ p. eqb (bondAt (s + p)) 61)
+
+bond-of : (s n p : ℕ) → bonded s n ≡ true → p < n → bondAt (s + p) ≡ 61
+bond-of s n p t h = eqb-true _ _ (passes-below n (λ p. eqb (bondAt (s + p)) 61) t p h)
+
 module _ (ed : Edition) (xs : List ℕ) (full : length xs ≡ lengthOf ed) (cols : Columns ed xs) (legal-at : (e : ℕ) → 1 ≤ e → e ≤ lastOf ed → legal ed xs e ≡ true) where
-  module _ (s w : ℕ) (l : 1 ≤ w) (h : s + w ≤ lengthOf ed) where
-    long : length (take w (drop s xs)) ≡ w
-    long = length-take-le w (drop s xs) (rw length-drop (omega (arith, full)))
+  joins : (s n p : ℕ) → bonded s n ≡ true → p < n → s + p < lengthOf ed → joined 61 (getD xs (s + p) 0) (getD xs (s + p + 1) 0) ≡ true
+  joins s n p t h l = rw (bond-of s n p t h) at (cols (s + p) l .bound)
 
-    at : (p : ℕ) → p < w → getD (take w (drop s xs)) p 0 ≡ getD xs (s + p) 0
-    at p k = getD-take w (drop s xs) p 0 k ∙ getD-drop s xs p 0
+  -- columns that go together are blank or filled as the first is
+  along : (s n p : ℕ) → bonded s n ≡ true → p ≤ n → s + n ≤ lengthOf ed → eqb (getD xs s 0) 32 ≡ eqb (getD xs (s + p) 0) 32
+  along s n zero t h l = ap (λ (i : ℕ). eqb (getD xs i 0) 32) (omega arith)
+  along s n (suc p) t h l =
+      along s n p t (omega arith) l ∙ same-blank _ _ (joins s n p t (omega arith) (omega arith)) ∙ ap (λ (i : ℕ). eqb (getD xs i 0) 32) (omega arith)
 
-    -- some columns that go together, as the first of them says
-    says : everyBelow (w - 1) (λ p. eqb (bondAt (s + p)) 61) ≡ true → blank (take w (drop s xs)) ≡ eqb (getD xs s 0) 32
+  module _ (e : ℕ) (l : 1 ≤ e) (h : e ≤ lastOf ed) where
+    -- an element, as the first of its columns says, where they go together
+    says : bonded (startOf e) (widthOf e - 1) ≡ true → blank (textOf e xs) ≡ eqb (firstByte e xs) 32
     says t =
-        first-says (take w (drop s xs)) (rw long l)
-        (λ p k. let m : suc p < w = rw long at k in
-        let i : s + suc p ≡ s + p + 1 = omega arith in
-        let q : bondAt (s + p) ≡ 61 = eqb-true _ _ (passes-below (w - 1) (λ p. eqb (bondAt (s + p)) 61) t p (omega arith)) in
-        rw (at p (omega arith), at (suc p) m, i, ← q) (cols (s + p) (omega arith) .bound)) ∙
-        ap (λ (b : ℕ). eqb b 32) (at 0 (omega arith) ∙ ap (λ (i : ℕ). getD xs i 0) (omega arith))
+        let long = text-long ed xs full e h in
+        let some : 1 ≤ widthOf e = some-column e l (omega (arith, last-below ed)) in
+        first-says (textOf e xs) (rw long some)
+        (λ p k. let m : suc p < widthOf e = rw long at k in
+        let i : startOf e + suc p ≡ startOf e + p + 1 = omega arith in
+        rw (text-byte xs e p (omega arith), text-byte xs e (suc p) m, i) (joins (startOf e) (widthOf e - 1) p t (omega arith) (omega (arith, ends ed e h)))) ∙
+        ap (λ (b : ℕ). eqb b 32) (text-byte xs e 0 some ∙ ap (λ (i : ℕ). getD xs i 0) (omega arith))
 
-  -- a column, and the next
-  next : (k : ℕ) → k < lengthOf ed → bondAt k ≡ 61 → eqb (getD xs k 0) 32 ≡ eqb (getD xs (k + 1) 0) 32
-  next k h b = same-blank _ _ (rw b at (cols k h .bound))
-
-  -- a sign and its temperature, in element e, and its last digit
-  module _ (s : ℕ) (h : s + 4 ≤ lengthOf ed) (v : Degrees xs s) where
-    signed-at : bondAt s ≡ 61 → bondAt (s + 1 + 0) ≡ 61 → bondAt (s + 1 + 1) ≡ 61 → (blank (take 3 (drop (s + 1) xs)) || digits (take 3 (drop (s + 1) xs))) ≡ true →
-        signTie (take 1 (drop s xs)) (take 3 (drop (s + 1) xs)) ≡ true
-    unfolding lastHighest
-    signed-at b0 b1 b2 d =
-        let one : take 1 (drop s xs) ≡ getD xs s 0 ∷ [] = one-column xs s (omega (arith, full)) in
-        let t = at (s + 1) 3 (omega arith) (omega arith) in
-        let i : s + 1 + 0 ≡ s + 1 = omega arith in
-        let j : s + 1 + 1 ≡ s + 2 = omega arith in
-        let k : s + 1 + 2 ≡ s + 3 = omega arith in
-        rw one
-        (sign-holds (getD xs s 0) (take 3 (drop (s + 1) xs)) (eqb (getD xs s 0) 32) (long (s + 1) 3 (omega arith) (omega arith))
-        (rw one at (says s 1 (omega arith) (omega arith) refl))
-        (says (s + 1) 3 (omega arith) (omega arith) (rw (b1, b2)) ∙ sym (next s (omega arith) b0))
-        d (rw (t 0 (omega arith), t 1 (omega arith), t 2 (omega arith), i, j, k) (v .signed)))
-
-    -- column 1 binds the last digit with a sign below 5, and with one from 5 on the tie does not
-    digit-at : leb 53 (getD xs s 0) ≡ false → tenthsFit (getD xs 0 0 ∷ []) (take 3 (drop (s + 1) xs)) ≡ true
-    digit-at low =
-        digit-holds (getD xs 0 0) (getD xs (s + 3) 0) (number (take 2 (drop (s + 1) xs))) _
-        (number-more xs (s + 1) 2 (omega (arith, full)) ∙ ap (λ (i : ℕ). number (take 2 (drop (s + 1) xs)) * 10 + (getD xs i 0 - 48)) (omega arith)) (rw low at (v .last))
-
-    measured-at : measuredFit (getD xs 0 0 ∷ []) (take 1 (drop s xs)) (take 3 (drop (s + 1) xs)) ≡ true
-    unfolding valueFrom
-    measured-at =
-        let b = getD xs s 0 in
-        let one : take 1 (drop s xs) ≡ b ∷ [] = one-column xs s (omega (arith, full)) in
-        decide (leb 53 b) (λ x. rw (one, lt-leb (number (b ∷ [])) 2 (omega (arith, leb-true 53 b x)))) (λ x. rw (digit-at x) (free (leb (number (take 1 (drop s xs))) 2)))
+    -- and the next element, where its last column goes with that
+    with-next : bonded (startOf e) (widthOf e) ≡ true → eqb (firstByte e xs) 32 ≡ eqb (firstByte (e + 1) xs) 32
+    with-next t = along (startOf e) (widthOf e) (widthOf e) t (le-refl (widthOf e)) (ends ed e h) ∙ ap (λ (i : ℕ). eqb (getD xs i 0) 32) (sym (start-next e))
 
   -- a number that may be blank: its digits, and a sign of one column that is at most 1
   module _ (e a b : ℕ) (m : mayBeBlank e ≡ true) (t : textsOf ed e ≡ Within a b) (k : 1 ≤ e) (l : e ≤ 85) where
@@ -159,67 +146,113 @@ module _ (ed : Edition) (xs : List ℕ) (full : length xs ≡ lengthOf ed) (cols
         let n : number (textOf e xs) ≡ s - 48 = ap number q ∙ omega arith in
         lt-leb 53 s (⊎-elim (λ x. omega (arith, only-blank s (and-first _ _ (rw q at x)))) (λ x. omega (arith, greatest a b _ (and-second (digits (textOf e xs)) _ x))) within)
 
+  -- the sign in element e, and the temperature after it
+  module _ (e : ℕ) (l : 1 ≤ e) (h : e + 1 ≤ lastOf ed) (v : Degrees xs e) (one : widthOf e ≡ 1) (three : widthOf (e + 1) ≡ 3) where
+    next : startOf (e + 1) ≡ startOf e + 1
+    next = start-next e ∙ ap (λ (n : ℕ). startOf e + n) one
+
+    sign : textOf e xs ≡ firstByte e xs ∷ []
+    sign = one-byte xs e one (omega (arith, full, begins ed e l (omega arith)))
+
+    at : (p : ℕ) → p < 3 → getD (textOf (e + 1) xs) p 0 ≡ getD xs (startOf e + (p + 1)) 0
+    at p k = text-byte xs (e + 1) p (omega (arith, three)) ∙ ap (λ (i : ℕ). getD xs i 0) (omega (arith, next))
+
+    signed-at : bonded (startOf e) (widthOf e) ≡ true → bonded (startOf (e + 1)) (widthOf (e + 1) - 1) ≡ true → (blank (textOf (e + 1) xs) || digits (textOf (e + 1) xs)) ≡ true →
+        signTie (textOf e xs) (textOf (e + 1) xs) ≡ true
+    unfolding lastHighest
+    signed-at t u d =
+        let alone = ap (λ (n : ℕ). bonded (startOf e) (n - 1)) one in
+        rw sign
+        (sign-holds (firstByte e xs) (textOf (e + 1) xs) (eqb (firstByte e xs) 32) (text-long ed xs full (e + 1) h ∙ three)
+        (rw sign at (says e l (omega arith) alone))
+        (says (e + 1) (omega arith) h u ∙ sym (with-next e l (omega arith) t))
+        d (rw (at 0 (omega arith), at 1 (omega arith), at 2 (omega arith)) (v .signed)))
+
+    -- column 1 binds the last digit with a sign below 5, and with one from 5 on the tie does not
+    digit-at : leb 53 (firstByte e xs) ≡ false → tenthsFit (firstByte 1 xs ∷ []) (textOf (e + 1) xs) ≡ true
+    unfolding textOf
+    digit-at low =
+        let s = startOf (e + 1) in
+        let value : textOf (e + 1) xs ≡ take 3 (drop s xs) = ap (λ (n : ℕ). take n (drop s xs)) three in
+        let last : getD xs (s + 2) 0 ≡ getD xs (startOf e + 3) 0 = ap (λ (i : ℕ). getD xs i 0) (omega (arith, next)) in
+        digit-holds (firstByte 1 xs) (getD xs (startOf e + 3) 0) (number (take 2 (drop s xs))) _
+        (ap number value ∙ number-more xs s 2 (omega (arith, full, three, ends ed (e + 1) h)) ∙ ap (λ (b : ℕ). number (take 2 (drop s xs)) * 10 + (b - 48)) last) (rw low at (v .last))
+
+    measured-at : measuredFit (firstByte 1 xs ∷ []) (textOf e xs) (textOf (e + 1) xs) ≡ true
+    unfolding valueFrom
+    measured-at =
+        let b = firstByte e xs in
+        decide (leb 53 b) (λ x. rw (sign, lt-leb (number (b ∷ [])) 2 (omega (arith, leb-true 53 b x)))) (λ x. rw (digit-at x) (free (leb (number (textOf e xs)) 2)))
+
   module _ (temps : Temperatures xs) where
     tie-1 : placeTie (textOf 6 xs) (textOf 7 xs) (textOf 8 xs) ≡ true
-    unfolding textOf startOf columns element page bondAt bonds bondsFrom inside after
+    unfolding startOf columns element page bondAt bonds bondsFrom inside after
     tie-1 =
-        let l = shortest ed in
-        place-holds _ _ _ (eqb (getD xs 11 0) 32) (says 11 1 (omega arith) (omega arith) refl) (says 12 3 (omega arith) (omega arith) refl ∙ sym (next 11 (omega arith) refl))
-        (says 15 4 (omega arith) (omega arith) refl ∙ sym (next 11 (omega arith) refl ∙ next 12 (omega arith) refl ∙ next 13 (omega arith) refl ∙ next 14 (omega arith) refl))
+        let l = last-above ed in
+        let latitude = with-next 6 (omega arith) (omega arith) refl in
+        place-holds _ _ _ (eqb (firstByte 6 xs) 32) (says 6 (omega arith) (omega arith) refl) (says 7 (omega arith) (omega arith) refl ∙ sym latitude)
+        (says 8 (omega arith) (omega arith) refl ∙ sym (latitude ∙ with-next 7 (omega arith) (omega arith) refl))
 
     tie-3 : signTie (textOf 16 xs) (textOf 17 xs) ≡ true
-    unfolding textOf startOf columns element page bondAt bonds bondsFrom inside after
-    tie-3 = signed-at 29 (omega (arith, shortest ed)) (temps .0 .0) refl refl refl (digits-of 17 0 999 refl (in-each ed 17 (Within 0 999) refl refl refl) (omega arith) (omega arith))
+    unfolding startOf columns element page bondAt bonds bondsFrom inside after
+    tie-3 = signed-at 16 (omega arith) (omega (arith, last-above ed)) (temps .0 .0) refl refl refl refl (digits-of 17 0 999 refl (in-each ed 17 (Within 0 999) refl refl refl) (omega arith) (omega arith))
 
     tie-4 : signTie (textOf 18 xs) (textOf 19 xs) ≡ true
-    unfolding textOf startOf columns element page bondAt bonds bondsFrom inside after
-    tie-4 = signed-at 33 (omega (arith, shortest ed)) (temps .0 .1) refl refl refl (digits-of 19 0 999 refl (in-each ed 19 (Within 0 999) refl refl refl) (omega arith) (omega arith))
+    unfolding startOf columns element page bondAt bonds bondsFrom inside after
+    tie-4 = signed-at 18 (omega arith) (omega (arith, last-above ed)) (temps .0 .1) refl refl refl refl (digits-of 19 0 999 refl (in-each ed 19 (Within 0 999) refl refl refl) (omega arith) (omega arith))
 
     tie-5 : signTie (textOf 28 xs) (textOf 29 xs) ≡ true
-    unfolding textOf startOf columns element page bondAt bonds bondsFrom inside after
-    tie-5 = signed-at 49 (omega (arith, shortest ed)) (temps .1 .0) refl refl refl (digits-of 29 0 999 refl (in-each ed 29 (Within 0 999) refl refl refl) (omega arith) (omega arith))
+    unfolding startOf columns element page bondAt bonds bondsFrom inside after
+    tie-5 = signed-at 28 (omega arith) (omega (arith, last-above ed)) (temps .1 .0) refl refl refl refl (digits-of 29 0 999 refl (in-each ed 29 (Within 0 999) refl refl refl) (omega arith) (omega arith))
 
     tie-6 : signTie (textOf 50 xs) (textOf 51 xs) ≡ true
-    unfolding textOf startOf columns element page bondAt bonds bondsFrom inside after
-    tie-6 = signed-at 88 (omega (arith, shortest ed)) (temps .1 .1) refl refl refl (digits-of 51 0 999 refl (in-each ed 51 (Within 0 999) refl refl refl) (omega arith) (omega arith))
+    unfolding startOf columns element page bondAt bonds bondsFrom inside after
+    tie-6 = signed-at 50 (omega arith) (omega (arith, last-above ed)) (temps .1 .1) refl refl refl refl (digits-of 51 0 999 refl (in-each ed 51 (Within 0 999) refl refl refl) (omega arith) (omega arith))
 
     tie-7 : tie ed xs 7 ≡ true
-    unfolding textOf startOf columns element page tie digitTie
+    unfolding element page tie digitTie
     tie-7 =
-        let l = shortest ed in
-        let air = low-sign 16 0 1 refl (in-each ed 16 (Within 0 1) refl refl refl) (omega arith) (omega arith) (omega arith) _ (one-column xs 29 (omega (arith, full))) in
-        let sea = low-sign 28 0 1 refl (in-each ed 28 (Within 0 1) refl refl refl) (omega arith) (omega arith) (omega arith) _ (one-column xs 49 (omega (arith, full))) in
-        rw (one-column xs 0 (omega (arith, full)), digit-at 29 (omega arith) (temps .0 .0) air, measured-at 33 (omega arith) (temps .0 .1), digit-at 49 (omega arith) (temps .1 .0) sea, measured-at 88 (omega arith) (temps .1 .1))
+        let l = last-above ed in
+        let air = low-sign 16 0 1 refl (in-each ed 16 (Within 0 1) refl refl refl) (omega arith) (omega arith) (omega arith) _ (sign 16 (omega arith) (omega arith) (temps .0 .0) refl refl) in
+        let sea = low-sign 28 0 1 refl (in-each ed 28 (Within 0 1) refl refl refl) (omega arith) (omega arith) (omega arith) _ (sign 28 (omega arith) (omega arith) (temps .1 .0) refl refl) in
+        rw (
+          one-byte xs 1 refl (omega (arith, full, begins ed 1 (omega arith) (omega arith))),
+          digit-at 16 (omega arith) (omega arith) (temps .0 .0) refl refl air,
+          measured-at 18 (omega arith) (omega arith) (temps .0 .1) refl refl,
+          digit-at 28 (omega arith) (omega arith) (temps .1 .0) refl refl sea,
+          measured-at 50 (omega arith) (omega arith) (temps .1 .1) refl refl,
+        )
 
   tie-8 : windTie (textOf 15 xs) (textOf 14 xs) ≡ true
-  unfolding textOf startOf columns element page bondAt bonds bondsFrom inside after
+  unfolding startOf columns element page bondAt bonds bondsFrom inside after
   tie-8 =
-      let l = shortest ed in
-      wind-holds _ _ (eqb (getD xs 27 0) 32) (eqb (getD xs 26 0) 32) (says 27 2 (omega arith) (omega arith) refl) (says 26 1 (omega arith) (omega arith) refl) (after-blank 62 _ _ (omega arith) (cols 26 (omega arith) .bound))
+      let l = last-above ed in
+      wind-holds _ _ (eqb (firstByte 15 xs) 32) (eqb (firstByte 14 xs) 32) (says 15 (omega arith) (omega arith) refl) (says 14 (omega arith) (omega arith) refl)
+      (after-blank 62 _ _ (omega arith) (cols (startOf 14) (begins ed 14 (omega arith) (omega arith)) .bound))
 
   -- RWS needs iw
-  tie-9 : lengthOf ed ≡ 159 → needs (getD xs 148 0) (getD xs 26 0) ≡ true → windTie (textOf 93 xs) (textOf 14 xs) ≡ true
-  unfolding textOf startOf columns element page bondAt bonds bondsFrom inside after needs
+  tie-9 : lastOf ed ≡ 101 → needs (firstByte 93 xs) (firstByte 14 xs) ≡ true → windTie (textOf 93 xs) (textOf 14 xs) ≡ true
+  unfolding startOf columns element page bondAt bonds bondsFrom inside after needs
   tie-9 m h =
-      wind-holds _ _ (eqb (getD xs 148 0) 32) (eqb (getD xs 26 0) 32) (says 148 3 (omega arith) (omega arith) refl) (says 26 1 (omega arith) (omega arith) refl)
-      (λ e. decide (eqb (getD xs 148 0) 32) (λ x. x) (λ x. absurd (true≢false (sym (rw (x, e) at h)))))
+      wind-holds _ _ (eqb (firstByte 93 xs) 32) (eqb (firstByte 14 xs) 32) (says 93 (omega arith) (omega arith) refl) (says 14 (omega arith) (omega arith) refl)
+      (λ e. decide (eqb (firstByte 93 xs) 32) (λ x. x) (λ x. absurd (true≢false (sym (rw (x, e) at h)))))
 
   -- the day exists in its month
   tie-10 : InEveryYear xs → dayTie (textOf 2 xs) (textOf 3 xs) (textOf 4 xs) ≡ true
-  unfolding textOf startOf columns element page
+  unfolding element page
   tie-10 h =
-      let l = shortest ed in
+      let l = last-above ed in
       in-every-year (textOf 2 xs) (textOf 3 xs) (textOf 4 xs)
-      (has-day (textOf 3 xs) (textOf 4 xs) (long 5 2 (omega arith) (omega arith)) (long 7 2 (omega arith) (omega arith))
+      (has-day (textOf 3 xs) (textOf 4 xs) (text-long ed xs full 3 (omega arith)) (text-long ed xs full 4 (omega arith))
       (within 3 1 12 refl (in-each ed 3 (Within 1 12) refl refl refl) (omega arith) (omega arith))
       (within 4 1 31 refl (in-each ed 4 (Within 1 31) refl refl refl) (omega arith) (omega arith)) h)
 
 -- in edition 1 the octant goes with the longitude: what a column 12 may hold is near where it is not far
 sides : ℕ → Bool
-sides b = not (fits (cellAt One 11) b && not (eqb b 32)) || Bool·beq (among 0 3 5 8 (number (b ∷ []))) (not (far b))
+sides b = not (fits (cellAt One (startOf 6)) b && not (eqb b 32)) || Bool·beq (among 0 3 5 8 (number (b ∷ []))) (not (far b))
 
 all-sides : everyBelow 127 sides ≡ true
-unfolding sides cellAt cells cellsFrom cellOf page allowed valueFrom
+unfolding sides startOf columns cellAt cells cellsFrom cellOf page allowed valueFrom
 all-sides = refl
 
 spells-900 : (w : ℕ) → w ≡ 4 → spells w 900 ≡ true
@@ -236,23 +269,22 @@ octant-holds b t l d s h = by (among 0 3 5 8 (number (b ∷ []))) (far b) s h
     by false true s h = le-leb 900 (number t) (at-least t d 900 (spells-900 _ l) (rw l (leb-true 809054256 (word t) h)))
     by false false s h = absurd (true≢false (sym s))
 
-tie-2 : (xs : List ℕ) → length xs ≡ 131 → Columns One xs → ((e : ℕ) → 1 ≤ e → e ≤ 85 → legal One xs e ≡ true) → octantNear (getD xs 11 0) (word (take 4 (drop 15 xs))) ≡ true →
+tie-2 : (xs : List ℕ) → length xs ≡ 131 → Columns One xs → ((e : ℕ) → 1 ≤ e → e ≤ 85 → legal One xs e ≡ true) → octantNear (firstByte 6 xs) (word (textOf 8 xs)) ≡ true →
     octantTie One (textOf 6 xs) (textOf 8 xs) ≡ true
-unfolding octantTie textOf startOf columns element page bondAt bonds bondsFrom inside after sides
+unfolding octantTie startOf columns element page bondAt bonds bondsFrom inside after sides
 tie-2 xs full cols legal-at h =
-    let b = getD xs 11 0 in
-    let one : take 1 (drop 11 xs) ≡ b ∷ [] = one-column xs 11 (omega arith) in
-    let first : blank (take 1 (drop 11 xs)) ≡ eqb b 32 = says One xs full cols legal-at 11 1 (omega arith) (omega arith) refl in
-    let g = next One xs full cols legal-at in
-    let same : eqb b 32 ≡ eqb (getD xs 15 0) 32 = g 11 (omega arith) refl ∙ g 12 (omega arith) refl ∙ g 13 (omega arith) refl ∙ g 14 (omega arith) refl in
-    let there : blank (take 4 (drop 15 xs)) ≡ eqb b 32 = says One xs full cols legal-at 15 4 (omega arith) (omega arith) refl ∙ sym same in
-    let held = cols 11 (omega arith) .held in
+    let b = firstByte 6 xs in
+    let one : textOf 6 xs ≡ b ∷ [] = one-byte xs 6 refl (omega (arith, begins One 6 (omega arith) (omega arith))) in
+    let first : blank (textOf 6 xs) ≡ eqb b 32 = says One xs full cols legal-at 6 (omega arith) (omega arith) refl in
+    let same : eqb b 32 ≡ eqb (firstByte 8 xs) 32 = with-next One xs full cols legal-at 6 (omega arith) (omega arith) refl ∙ with-next One xs full cols legal-at 7 (omega arith) (omega arith) refl in
+    let there : blank (textOf 8 xs) ≡ eqb b 32 = says One xs full cols legal-at 8 (omega arith) (omega arith) refl ∙ sym same in
+    let held = cols (startOf 6) (begins One 6 (omega arith) (omega arith)) .held in
     decide (eqb b 32) (λ e. rw (first ∙ e))
-    (λ e. second-holds (blank (take 1 (drop 11 xs))) _
-    (ap (λ (t : List ℕ). octantFits (number t) (number (take 4 (drop 15 xs)))) one ∙
-    octant-holds b (take 4 (drop 15 xs)) (long One xs full cols legal-at 15 4 (omega arith) (omega arith))
+    (λ e. second-holds (blank (textOf 6 xs)) _
+    (ap (λ (t : List ℕ). octantFits (number t) (number (textOf 8 xs))) one ∙
+    octant-holds b (textOf 8 xs) (text-long One xs full 8 (omega arith))
     (rw (there ∙ e) at (digits-of One xs full cols legal-at 8 0 1800 refl refl (omega arith) (omega arith)))
-    (imply (fits (cellAt One 11) b && not (eqb b 32)) _ (passes-below 127 sides all-sides b (omega (arith, at-most-126 One 11 b held))) (rw (held, e))) h))
+    (imply (fits (cellAt One (startOf 6)) b && not (eqb b 32)) _ (passes-below 127 sides all-sides b (omega (arith, at-most-126 One (startOf 6) b held))) (rw (held, e))) h))
 
 -- a list of tests that all pass
 AllHold : List Bool → Type 0

@@ -4,12 +4,12 @@ use mathlib.Core.Path.{_≡_}
 use mathlib.Core.List.{List, [], _∷_}
 use mathlib.Core.Bool.{true, false, _||_}
 use lib.Dec.{eqb, leb}
-use lib.ListN.{length, getD, take, drop}
+use lib.ListN.{length, getD}
 use Rattle.text.specs.Bytes.{word}
 use Rattle.layout.specs.declared.Edition.{Edition}
 use Rattle.layout.specs.declared.Edition.the-variants.{One, Three, Four}
 use Rattle.layout.specs.Editions.{lengthOf, lastOf}
-use Rattle.layout.specs.Page.{legal}
+use Rattle.layout.specs.Page.{startOf, textOf, firstByte, legal}
 use Rattle.ties.specs.Ties.{tie}
 use Rattle.glance.specs.Tests.{neither, lastHighest, plusZero, topDigit, halfDigit, lastFits, needs, octantNear, common}
 use Rattle.glance.specs.Limits.{Limited}
@@ -46,31 +46,31 @@ courses = 87 ∷ 88 ∷ 91 ∷ 92 ∷ []
 
 -- column 1 is there, and ix is none of the digits between its codes that their run holds
 abbrev pub Codes : List ℕ → Type 0
-Codes xs = (eqb (getD xs 0 0) 32 ≡ false) × (neither 50 51 (getD xs 82 0) ≡ true)
+Codes xs = (eqb (firstByte 1 xs) 32 ≡ false) × (neither 50 51 (firstByte 46 xs) ≡ true)
 
--- a sign and its temperature, from column s on: no minus zero, and a sign of 5 or above or a last digit that column 1 takes
-pub record Temperature (xs : List ℕ) (s top half : ℕ) : Type 0 where
-  pub signed : plusZero (lastHighest xs s) ≡ true
-  pub last : (leb 53 (getD xs s 0) || lastFits top half (getD xs (s + 3) 0)) ≡ true
+-- the sign in element e and the temperature after it: no minus zero, and a sign of 5 or above or a last digit that column 1 takes
+pub record Temperature (xs : List ℕ) (e top half : ℕ) : Type 0 where
+  pub signed : plusZero (lastHighest xs (startOf e)) ≡ true
+  pub last : (leb 53 (firstByte e xs) || lastFits top half (getD xs (startOf e + 3) 0)) ≡ true
 
 abbrev pub Degrees : List ℕ → ℕ → Type 0
-Degrees xs s = Temperature xs s (topDigit (getD xs 0 0)) (halfDigit (getD xs 0 0))
+Degrees xs e = Temperature xs e (topDigit (firstByte 1 xs)) (halfDigit (firstByte 1 xs))
 
 abbrev pub Temperatures : List ℕ → Type 0
-Temperatures xs = (Degrees xs 29 × Degrees xs 33) × (Degrees xs 49 × Degrees xs 88)
+Temperatures xs = (Degrees xs 16 × Degrees xs 18) × (Degrees xs 28 × Degrees xs 50)
 
 -- the month has the day in every year
 abbrev pub InEveryYear : List ℕ → Type 0
-InEveryYear xs = common (word (take 2 (drop 5 xs))) (word (take 2 (drop 7 xs))) ≡ true
+InEveryYear xs = common (word (textOf 3 xs)) (word (textOf 4 xs)) ≡ true
 
 -- what all editions ask alike, and what each asks besides
 abbrev pub Alike : List ℕ → Type 0
 Alike xs = Limits dates xs × (Limits places xs × (Limits winds xs × (Limits falls xs × (Codes xs × (Temperatures xs × InEveryYear xs)))))
 
 abbrev pub Later : List ℕ → Type 0
-Later xs = Limits courses xs × ((neither 50 54 (getD xs 11 0) ≡ true) × (needs (getD xs 148 0) (getD xs 26 0) ≡ true))
+Later xs = Limits courses xs × ((neither 50 54 (firstByte 6 xs) ≡ true) × (needs (firstByte 93 xs) (firstByte 14 xs) ≡ true))
 
 abbrev pub Rest : Edition → List ℕ → Type 0
-Rest One xs = octantNear (getD xs 11 0) (word (take 4 (drop 15 xs))) ≡ true
+Rest One xs = octantNear (firstByte 6 xs) (word (textOf 8 xs)) ≡ true
 Rest Three xs = Later xs
 Rest Four xs = Later xs

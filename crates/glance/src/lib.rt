@@ -11,78 +11,42 @@ use faults::reaches;
 use faults::same;
 use layout::Edition;
 use layout::Named;
+use layout::page;
+use layout::widths;
 ghost use mathlib.Core.Path.{_≡_};
 ghost use mathlib.Core.Bool.{true};
 ghost use Prim.Native.Nat.{_+_, _≤_};
-ghost use lib.ListN.{length, getD, take, drop};
+ghost use lib.ListN.{length};
 ghost use Rattle.text.specs.Bytes.{word};
 ghost use Rattle.faults.specs.Faults.{no};
 ghost use Rattle.layout.specs.declared.Named.the-variants.{Known};
 ghost use Rattle.layout.specs.Editions.{editionOf, lengthOf};
+ghost use Rattle.layout.specs.Page.{widthOf, startOf, textOf, firstByte};
 ghost use Rattle.glance.specs.Tests.{inLimit, neither, lastHighest, plusZero, topDigit, halfDigit, needs, octantNear, common};
 ghost use Rattle.glance.specs.Sure.{dates, places, winds, falls, courses, Limits, Codes, Temperature, Temperatures, InEveryYear, Alike, Rest, Sure};
 
-// A byte as a number.
-fn wide(b: u8) -> u32
-    ensures { λ r. ⌜ (r ≡ b) × (r ≤ 255) ⌝ }
+// The bytes of element e as one number, the first highest. Digits stand in the order of the numbers that
+// they say, and blanks below all of them, so that limits are set on the bytes themselves.
+fn word_of(line: &[u8], e: usize) -> u64
+    requires { ⌜ startOf e + widthOf e ≤ length (now line) ⌝ }
+    ensures { λ r. ⌜ r ≡ word (textOf e (now (line .entry))) ⌝ }
 {
-    b as u32
-}
-
-// Two bytes as one number, the first highest. Digits stand in the order of the numbers that they say,
-// and blanks below all of them, so that limits are set on the bytes themselves.
-fn two(line: &[u8], at: usize) -> u32
-    requires { ⌜ at + 2 ≤ length (now line) ⌝ }
-    ensures { λ r. ⌜ (r ≡ word (take 2 (drop at (now (line .entry))))) × (r ≤ 65535) ⌝ }
-{
-    wide(line[at]) * 256 + wide(line[at + 1])
-}
-
-// The same of three bytes.
-fn three(line: &[u8], at: usize) -> u32
-    requires { ⌜ at + 3 ≤ length (now line) ⌝ }
-    ensures { λ r. ⌜ (r ≡ word (take 3 (drop at (now (line .entry))))) × (r ≤ 16777215) ⌝ }
-{
-    two(line, at) * 256 + wide(line[at + 2])
-}
-
-// The same of four.
-fn four(line: &[u8], at: usize) -> u32
-    requires { ⌜ at + 4 ≤ length (now line) ⌝ }
-    ensures { λ r. ⌜ r ≡ word (take 4 (drop at (now (line .entry)))) ⌝ }
-{
-    three(line, at) * 256 + wide(line[at + 3])
+    numerals::word_of(page::full_text(line, e))
 }
 
 // Is the number past the top, or in the gap from `gap` up to `end`?
-fn beyond(n: u32, top: u32, gap: u32, end: u32) -> u8
+fn beyond(n: u64, top: u64, gap: u64, end: u64) -> u8
     ensures { λ r. ⌜ r ≡ no (inLimit top gap end n) ⌝ }
 {
     above(n, top) | (reaches(n, gap) & above(end, n))
 }
 
-// Is the number in two columns?
-fn two_off(line: &[u8], at: usize, top: u32, gap: u32, end: u32) -> u8
-    requires { ⌜ at + 2 ≤ length (now line) ⌝ }
-    ensures { λ z. ⌜ (z ≡ 0 → inLimit top gap end (word (take 2 (drop at (now (line .entry))))) ≡ true) ⌝ }
+// Is the number in element e?
+fn off(line: &[u8], e: usize, top: u64, gap: u64, end: u64) -> u8
+    requires { ⌜ startOf e + widthOf e ≤ length (now line) ⌝ }
+    ensures { λ z. ⌜ (z ≡ 0 → inLimit top gap end (word (textOf e (now (line .entry)))) ≡ true) ⌝ }
 {
-    beyond(two(line, at), top, gap, end)
-}
-
-// Is the number in three?
-fn three_off(line: &[u8], at: usize, top: u32, gap: u32, end: u32) -> u8
-    requires { ⌜ at + 3 ≤ length (now line) ⌝ }
-    ensures { λ z. ⌜ (z ≡ 0 → inLimit top gap end (word (take 3 (drop at (now (line .entry))))) ≡ true) ⌝ }
-{
-    beyond(three(line, at), top, gap, end)
-}
-
-// Is the number in four?
-fn four_off(line: &[u8], at: usize, top: u32, gap: u32, end: u32) -> u8
-    requires { ⌜ at + 4 ≤ length (now line) ⌝ }
-    ensures { λ z. ⌜ (z ≡ 0 → inLimit top gap end (word (take 4 (drop at (now (line .entry))))) ≡ true) ⌝ }
-{
-    beyond(four(line, at), top, gap, end)
+    beyond(word_of(line, e), top, gap, end)
 }
 
 // Month 01 to 12, day 01 to 31, hour 00 to 23. A digit d stands here as 0x3d.
@@ -90,8 +54,8 @@ fn dates_off(line: &[u8]) -> u8
     requires { ⌜ 131 ≤ length (now line) ⌝ }
     ensures { λ z. ⌜ (z ≡ 0 → Limits dates (now (line .entry))) ⌝ }
 {
-    two_off(line, 5, 0x3132, 0x3030, 0x3031)
-        | (two_off(line, 7, 0x3331, 0x3030, 0x3031) | two_off(line, 9, 0x3233, 0x3030, 0x3030))
+    off(line, 3, 0x3132, 0x3030, 0x3031)
+        | (off(line, 4, 0x3331, 0x3030, 0x3031) | off(line, 5, 0x3233, 0x3030, 0x3030))
 }
 
 // Latitude to 900, longitude to 1800.
@@ -99,8 +63,7 @@ fn places_off(line: &[u8]) -> u8
     requires { ⌜ 131 ≤ length (now line) ⌝ }
     ensures { λ z. ⌜ (z ≡ 0 → Limits places (now (line .entry))) ⌝ }
 {
-    three_off(line, 12, 0x393030, 0x303030, 0x303030)
-        | four_off(line, 15, 0x31383030, 0x30303030, 0x30303030)
+    off(line, 7, 0x393030, 0x303030, 0x303030) | off(line, 8, 0x31383030, 0x30303030, 0x30303030)
 }
 
 // VV not from 51 to 55, dd to 36 or 99, PPPP not from 1000 to 7999. A top that no bytes reach is none.
@@ -108,9 +71,9 @@ fn winds_off(line: &[u8]) -> u8
     requires { ⌜ 131 ≤ length (now line) ⌝ }
     ensures { λ z. ⌜ (z ≡ 0 → Limits winds (now (line .entry))) ⌝ }
 {
-    two_off(line, 21, 0xffff_ffff, 0x3531, 0x3536)
-        | (two_off(line, 24, 0xffff_ffff, 0x3337, 0x3939)
-            | four_off(line, 37, 0xffff_ffff, 0x31303030, 0x38303030))
+    off(line, 11, 0xffff_ffff, 0x3531, 0x3536)
+        | (off(line, 13, 0xffff_ffff, 0x3337, 0x3939)
+            | off(line, 20, 0xffff_ffff, 0x31303030, 0x38303030))
 }
 
 // The swell's dd as that of the wind, RRR not 000, the second swell's dd.
@@ -118,9 +81,9 @@ fn falls_off(line: &[u8]) -> u8
     requires { ⌜ 131 ≤ length (now line) ⌝ }
     ensures { λ z. ⌜ (z ≡ 0 → Limits falls (now (line .entry))) ⌝ }
 {
-    two_off(line, 59, 0xffff_ffff, 0x3337, 0x3939)
-        | (three_off(line, 84, 0xffff_ffff, 0x303030, 0x303031)
-            | two_off(line, 98, 0xffff_ffff, 0x3337, 0x3939))
+    off(line, 34, 0xffff_ffff, 0x3337, 0x3939)
+        | (off(line, 48, 0xffff_ffff, 0x303030, 0x303031)
+            | off(line, 56, 0xffff_ffff, 0x3337, 0x3939))
 }
 
 // From edition 3 on: HDG and COG to 360, hh to 199 and not 100, RWD to 360.
@@ -128,10 +91,9 @@ fn courses_off(line: &[u8]) -> u8
     requires { ⌜ length (now line) ≡ 159 ⌝ }
     ensures { λ z. ⌜ (z ≡ 0 → Limits courses (now (line .entry))) ⌝ }
 {
-    (three_off(line, 132, 0x333630, 0x303030, 0x303030)
-        | three_off(line, 135, 0x333630, 0x303030, 0x303030))
-        | (three_off(line, 142, 0x313939, 0x313030, 0x313031)
-            | three_off(line, 145, 0x333630, 0x303030, 0x303030))
+    (off(line, 87, 0x333630, 0x303030, 0x303030) | off(line, 88, 0x333630, 0x303030, 0x303030))
+        | (off(line, 91, 0x313939, 0x313030, 0x313031)
+            | off(line, 92, 0x333630, 0x303030, 0x303030))
 }
 
 // Is the byte one of two?
@@ -146,12 +108,19 @@ fn codes_off(line: &[u8]) -> u8
     requires { ⌜ 131 ≤ length (now line) ⌝ }
     ensures { λ z. ⌜ (z ≡ 0 → Codes (now (line .entry))) ⌝ }
 {
-    equal(line[0], 32) | one_of(line[82], 50, 51)
+    equal(page::first_byte(line, 1), 32) | one_of(page::first_byte(line, 46), 50, 51)
+}
+
+// A byte as a number.
+fn wide(b: u8) -> u64
+    ensures { λ r. ⌜ (r ≡ b) × (r ≤ 255) ⌝ }
+{
+    b as u64
 }
 
 // Four bytes as one number, the last highest, as the processor takes them at once. Nothing is asked of
 // their order.
-fn backwards(line: &[u8], at: usize) -> u32
+fn backwards(line: &[u8], at: usize) -> u64
     requires { ⌜ at + 4 ≤ length (now line) ⌝ }
     ensures { λ r. ⌜ r ≡ lastHighest (now (line .entry)) at ⌝ }
 {
@@ -162,7 +131,7 @@ fn backwards(line: &[u8], at: usize) -> u32
 }
 
 // Is it a minus before zeros, 1000 or 6000?
-fn minus_zero(n: u32) -> u8
+fn minus_zero(n: u64) -> u8
     ensures { λ r. ⌜ r ≡ no (plusZero n) ⌝ }
 {
     same(n, 0x30303031) | same(n, 0x30303036)
@@ -182,12 +151,13 @@ fn half_digit(format: u8) -> u8
     if format == b'5' { b'0' } else { b'5' }
 }
 
-// A sign and its temperature, from column s on: is it minus zero, or has it, with a sign below 5, a last
-// digit that column 1 does not take?
-fn temperature(line: &[u8], s: usize, top: u8, half: u8) -> u8
-    requires { ⌜ s + 4 ≤ length (now line) ⌝ }
-    ensures { λ z. ⌜ (z ≡ 0 → Temperature (now (line .entry)) s top half) ⌝ }
+// The sign in element e and the temperature after it: is it minus zero, or has it, with a sign below 5, a
+// last digit that column 1 does not take?
+fn temperature(line: &[u8], e: usize, top: u8, half: u8) -> u8
+    requires { ⌜ startOf e + 4 ≤ length (now line) ⌝ }
+    ensures { λ z. ⌜ (z ≡ 0 → Temperature (now (line .entry)) e top half) ⌝ }
 {
+    let s = widths::start_of(e);
     minus_zero(backwards(line, s))
         | (past(b'5', line[s]) & (past(line[s + 3], top) & other(line[s + 3], half)))
 }
@@ -197,18 +167,18 @@ fn temperatures(line: &[u8]) -> u8
     requires { ⌜ 131 ≤ length (now line) ⌝ }
     ensures { λ z. ⌜ (z ≡ 0 → Temperatures (now (line .entry))) ⌝ }
 {
-    let top = top_digit(line[0]);
-    let half = half_digit(line[0]);
-    (temperature(line, 29, top, half) | temperature(line, 33, top, half))
-        | (temperature(line, 49, top, half) | temperature(line, 88, top, half))
+    let top = top_digit(page::first_byte(line, 1));
+    let half = half_digit(page::first_byte(line, 1));
+    (temperature(line, 16, top, half) | temperature(line, 18, top, half))
+        | (temperature(line, 28, top, half) | temperature(line, 50, top, half))
 }
 
 // Does the octant not go with the longitude? 1, 2, 6 and 7 have to reach 0900, and others must not pass
 // it.
-fn octant_off(octant: u32, longitude: u32) -> u8
+fn octant_off(octant: u8, longitude: u64) -> u8
     ensures { λ r. ⌜ r ≡ no (octantNear octant longitude) ⌝ }
 {
-    if text::is_among(octant, 49, 50, 54, 55) {
+    if text::is_among(octant as u32, 49, 50, 54, 55) {
         above(0x30393030, longitude)
     } else {
         above(longitude, 0x30393030)
@@ -227,7 +197,9 @@ fn later_off(line: &[u8]) -> u8
     requires { ⌜ length (now line) ≡ 159 ⌝ }
     ensures { λ z. ⌜ (z ≡ 0 → Rest Edition.Three (now (line .entry))) ⌝ }
 {
-    courses_off(line) | (one_of(line[11], 50, 54) | alone(line[148], line[26]))
+    courses_off(line)
+        | (one_of(page::first_byte(line, 6), 50, 54)
+            | alone(page::first_byte(line, 93), page::first_byte(line, 14)))
 }
 
 // What an edition asks besides of its numbers and its ties.
@@ -236,7 +208,7 @@ fn rest(edition: Edition, line: &[u8]) -> u8
     ensures { λ z. ⌜ (z ≡ 0 → Rest edition (now (line .entry))) ⌝ }
 {
     match edition {
-        Edition::One => octant_off(wide(line[11]), four(line, 15)),
+        Edition::One => octant_off(page::first_byte(line, 6), word_of(line, 8)),
         Edition::Three => later_off(line),
         Edition::Four => later_off(line),
     }
@@ -244,7 +216,7 @@ fn rest(edition: Edition, line: &[u8]) -> u8
 
 // Is it a day that not every year has in that month: in February from the 29th on, in April, June,
 // September and November the 31st? A leap day is left to a closer look.
-fn rare(month: u32, day: u32) -> u8
+fn rare(month: u64, day: u64) -> u8
     ensures { λ r. ⌜ r ≡ no (common month day) ⌝ }
 {
     above(day, 0x3238)
@@ -259,7 +231,7 @@ fn day_off(line: &[u8]) -> u8
     requires { ⌜ 131 ≤ length (now line) ⌝ }
     ensures { λ z. ⌜ (z ≡ 0 → InEveryYear (now (line .entry))) ⌝ }
 {
-    rare(two(line, 5), two(line, 7))
+    rare(word_of(line, 3), word_of(line, 4))
 }
 
 // What all editions ask alike of their numbers, their codes, their temperatures and their day.
@@ -275,7 +247,7 @@ fn alike(line: &[u8]) -> u8
 
 // Is a record of this length and this column 111 surely accepted?
 fn is_sure(edition: Edition, line: &[u8]) -> bool
-    requires { ⌜ (length (now line) ≡ lengthOf edition) × (editionOf (getD (now line) 110 0) ≡ Known edition) ⌝ }
+    requires { ⌜ (length (now line) ≡ lengthOf edition) × (editionOf (firstByte 65 (now line)) ≡ Known edition) ⌝ }
     ensures { λ r. ⌜ (r ≡ true → Sure edition (now (line .entry))) ⌝ }
 {
     if columns::shared(line) | alike(line) != 0 {
@@ -291,10 +263,10 @@ fn is_sure(edition: Edition, line: &[u8]) -> bool
 pub fn edition_of(line: &[u8]) -> Named
     ensures { λ r. ⌜ ((ed : Edition) → r ≡ Named.Known ed → Sure ed (now (line .entry))) ⌝ }
 {
-    if line.len() < 131 {
+    if line.len() < Edition::LENGTH_1 {
         return Named::Unknown;
     }
-    match Edition::of_digit(line[110]) {
+    match Edition::of_digit(page::first_byte(line, 65)) {
         Named::Known(edition) => {
             if line.len() != edition.length() {
                 return Named::Unknown;

@@ -1,5 +1,5 @@
 -- A number of no element: there is nothing written there, and nothing that is not legal. Assumes nothing.
-use mathlib.Core.Path.{_≡_, refl, sym}
+use mathlib.Core.Path.{_≡_, refl, sym, ap}
 use mathlib.Core.Bool.{true}
 use mathlib.Core.List.{List, []}
 use Prim.Native.Nat.{ℕ, zero, suc, _+_, _<_, _≤_}
@@ -7,11 +7,12 @@ use native.Mathlib.Omega.{arith}
 use borrow.Author.Tests.{ne-eqb}
 use lib.Dec.{lit≤}
 use lib.ListN.{length, take, drop-of-length-le, List·getD-eq-default}
+use lib.Seq.{take-all}
 use Rattle.text.specs.Bytes.{every}
 use Rattle.layout.specs.declared.Edition.{Edition}
 use Rattle.layout.specs.declared.Edition.the-variants.{One, Three, Four}
 use Rattle.layout.specs.Editions.{lengthOf, lastOf}
-use Rattle.layout.specs.Page.{page, none, elements, element, startOf, widthOf, textOf, legal}
+use Rattle.layout.specs.Page.{page, none, elements, element, columns, startOf, widthOf, textOf, legal}
 use Rattle.layout.proofs.Columns.{start-rises, filled}
 
 -- there is nothing to take of nothing
@@ -27,6 +28,10 @@ text-past xs e h = rw (List·getD-eq-default elements none h)
 pub width-past : (e : ℕ) → 101 < e → 0 ≡ widthOf e
 unfolding element page
 width-past e h = rw (List·getD-eq-default elements none h)
+
+pub start-past : (e : ℕ) → 101 < e → 159 ≡ startOf e
+unfolding startOf columns page
+start-past e h = ap columns (sym (take-all e elements h))
 
 pub last-above : (ed : Edition) → 85 ≤ lastOf ed
 last-above One = lit≤ tt

@@ -1,25 +1,21 @@
 -- Where the elements of the page stand: one after the other, at most seven columns wide. Assumes nothing.
-use mathlib.Core.Path.{_≡_, refl, sym, _∙_}
+use mathlib.Core.Path.{_≡_, refl, sym}
 use mathlib.Core.Bool.{Bool, true, _&&_}
 use mathlib.Core.List.{List, [], _∷_}
-use Prim.Native.Nat.{ℕ, zero, suc, _+_, _-_, _≤_, zero-le}
+use Prim.Native.Nat.{ℕ, zero, suc, _+_, _≤_, zero-le}
 use native.Mathlib.Nat.{add-zero, zero-add, add-assoc, le-refl, not-suc-le-zero, le-of-suc-le-suc, eq-or-lt-of-le}
 use native.Mathlib.Numerals.{add-one}
 use native.Mathlib.Omega.{arith}
 use mathlib.Core.Logic.{⊎-elim}
 use borrow.Author.Tests.{leb-true}
 use lib.Dec.{leb}
-use lib.ListN.{getD, take, List·getD-map}
+use lib.ListN.{getD, take}
+use Rattle.text.proofs.Below.{passes-below}
 use Rattle.text.proofs.Ways.{and-first, and-second}
 use Rattle.layout.specs.Editions.{lengthOf, lastOf}
 use Rattle.layout.specs.declared.Edition.{Edition}
 use Rattle.layout.specs.declared.Edition.the-variants.{One, Three, Four}
-use Rattle.layout.specs.Page.{Element, page, none, elements, element, WidthRow, widthOf, columns, startOf}
-
--- a row that says the elements' widths says each of them, and 0 where it ends
-pub width-at : (ws : List ℕ) → WidthRow ws → (e : ℕ) → getD ws e 0 - 48 ≡ widthOf e
-unfolding element
-width-at ws row e = sym (List·getD-map (λ b. b - 48) ws e 0) ∙ rw (row .says) (List·getD-map (λ x. x .width) elements e none)
+use Rattle.layout.specs.Page.{Element, page, none, elements, element, widthOf, columns, startOf}
 
 -- one element more
 next : (l : List Element) (e : ℕ) → columns (take (suc e) l) ≡ columns (take e l) + (getD l e none) .width
@@ -55,6 +51,9 @@ filled Four = refl
 pub start-below : (e : ℕ) → e ≤ 102 → startOf e ≤ 159
 start-below e h = omega (arith, start-rises e 102 h, filled Four)
 
+pub start-shared : (e : ℕ) → e ≤ 86 → startOf e ≤ 131
+start-shared e h = omega (arith, start-rises e 86 h, filled One)
+
 -- every element is at most seven columns wide, which antt computes over the page
 abbrev narrow-all : List Element → Bool
 narrow-all [] = true
@@ -68,3 +67,9 @@ narrow-at (x ∷ l) t (suc e) = narrow-at l (and-second (leb (x .width) 7) _ t) 
 pub narrow : (e : ℕ) → widthOf e ≤ 7
 unfolding element page
 narrow e = narrow-at elements refl e
+
+-- and every one has a column
+pub some-column : (e : ℕ) → 1 ≤ e → e ≤ 101 → 1 ≤ widthOf e
+unfolding element page
+some-column zero l h = absurd (omega arith)
+some-column (suc e) l h = leb-true _ _ (passes-below 101 (λ k. leb 1 (widthOf (suc k))) refl e h)

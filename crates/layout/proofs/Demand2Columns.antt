@@ -1,6 +1,7 @@
 -- Demand 2: the columns of an edition. Assumes nothing.
 --     widths-fill    the widths fill each edition exactly: they sum to 131 over elements 1 to 85 and to 159 over 1 to 101
 --     one-by-one     each element starts where the one before it ends, the first in the first column
+--     column-N       the columns that document 01 speaks of are where the widths put them: 1 is element 1, 12 element 6, 72 the first of element 42, 111 element 65
 --     printed        the columns of some elements, as the published page prints them
 use mathlib.Core.Path.{_≡_, refl}
 use mathlib.Core.List.{[], _∷_, map}
@@ -22,7 +23,24 @@ pub one-by-one : (startOf 1 ≡ 0) × ((e : ℕ) → startOf (e + 1) ≡ startOf
 unfolding startOf columns
 one-by-one = (refl, start-next)
 
--- the first and the last column of an element, counted from 1
+-- counted from 1
+pub column-1 : startOf 1 + 1 ≡ 1
+unfolding startOf columns
+column-1 = refl
+
+pub column-12 : startOf 6 + 1 ≡ 12
+unfolding startOf columns page
+column-12 = refl
+
+pub column-72 : startOf 42 + 1 ≡ 72
+unfolding startOf columns page
+column-72 = refl
+
+pub column-111 : startOf 65 + 1 ≡ 111
+unfolding startOf columns page
+column-111 = refl
+
+-- the first and the last column of an element
 abbrev pub printed-columns : ℕ → ℕ × ℕ
 printed-columns e = (startOf e + 1, startOf e + widthOf e)
 

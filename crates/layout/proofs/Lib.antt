@@ -1,5 +1,6 @@
 -- The laws of the page that the functions of this crate and of those above it cite.
 pub mod Columns
+pub mod Rows
 pub mod LegalTexts
 pub mod Elements
 pub mod Beyond

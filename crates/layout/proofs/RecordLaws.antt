@@ -2,7 +2,7 @@
 -- texts are equal. Assumes nothing.
 use mathlib.Core.Path.{_≡_, refl, sym, ap, _∙_}
 use mathlib.Core.List.{List, _++_}
-use Prim.Native.Nat.{ℕ, zero, suc, _+_, _-_, _≤_}
+use Prim.Native.Nat.{ℕ, zero, suc, _+_, _-_, _<_, _≤_}
 use native.Mathlib.Nat.{add-zero, zero-add, add-suc, suc-add, le-refl}
 use native.Mathlib.Numerals.{add-one}
 use native.Mathlib.Omega.{arith}
@@ -14,7 +14,7 @@ use Rattle.layout.specs.declared.Edition.the-variants.{One, Three, Four}
 use Rattle.layout.specs.Editions.{lengthOf, lastOf}
 use Rattle.layout.specs.Page.{columns, widthOf, startOf, textOf}
 use Rattle.layout.specs.Records.{rowFrom, recordFrom}
-use Rattle.layout.proofs.Columns.{start-next, start-rises, filled}
+use Rattle.layout.proofs.Columns.{start-next, start-rises, filled, some-column}
 use Rattle.layout.proofs.Elements.{last-below}
 
 -- a part of the front of a list is the part of the list
@@ -42,6 +42,17 @@ first = refl
 -- an element that the edition has ends within its length
 pub ends : (ed : Edition) (e : ℕ) → e ≤ lastOf ed → startOf e + widthOf e ≤ lengthOf ed
 ends ed e h = omega (arith, start-next e, start-rises (e + 1) (lastOf ed + 1) (omega arith), filled ed)
+
+pub begins : (ed : Edition) (e : ℕ) → 1 ≤ e → e ≤ lastOf ed → startOf e < lengthOf ed
+begins ed e l h = omega (arith, ends ed e h, some-column e l (omega (arith, last-below ed)))
+
+-- so a line that is long enough has its columns, and the first of them
+module _ (ed : Edition) (xs : List ℕ) (long : lengthOf ed ≤ length xs) (e : ℕ) where
+  pub has-text : e ≤ lastOf ed → startOf e + widthOf e ≤ length xs
+  has-text h = omega (arith, ends ed e h)
+
+  pub has-first : 1 ≤ e → e ≤ lastOf ed → startOf e < length xs
+  has-first l h = omega (arith, begins ed e l h)
 
 -- within a record an element has as many columns as it is wide
 pub text-long : (ed : Edition) (xs : List ℕ) → length xs ≡ lengthOf ed → (e : ℕ) → e ≤ lastOf ed → length (textOf e xs) ≡ widthOf e

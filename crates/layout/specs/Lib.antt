@@ -1,4 +1,5 @@
 pub mod Editions
 pub mod Page
+pub mod Widths
 pub mod Refusals
 pub mod Records

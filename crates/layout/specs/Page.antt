@@ -1,8 +1,7 @@
 -- The layout page: for each element, in order, how many columns it has and what may be written there in the editions 1, 3 and 4, as document 01
 -- lists it under 'Legal texts'. Where an element starts is worked out from the widths; no other list says it. Assumes nothing.
-use mathlib.Core.Path.{_≡_}
-use Prim.Native.Nat.{ℕ, _+_, _-_}
-use mathlib.Core.List.{List, [], _∷_, map}
+use Prim.Native.Nat.{ℕ, _+_}
+use mathlib.Core.List.{List, [], _∷_}
 use mathlib.Core.Bool.{Bool, not, _&&_, _||_}
 use lib.Dec.{eqb}
 use lib.ListN.{getD, take, drop}
@@ -157,10 +156,6 @@ element e = getD elements e none
 abbrev pub widthOf : ℕ → ℕ
 widthOf e = (element e) .width
 
--- a row of digits that are the elements' widths
-pub record WidthRow (ws : List ℕ) : Type 0 where
-  pub says : map (λ b. b - 48) ws ≡ map (λ e. e .width) elements
-
 -- how many columns some elements have
 unfoldable pub columns : List Element → ℕ
 columns [] = 0
@@ -173,6 +168,10 @@ startOf e = columns (take e elements)
 -- the characters of element e in a record
 unfoldable pub textOf : ℕ → List ℕ → List ℕ
 textOf e xs = take (widthOf e) (drop (startOf e) xs)
+
+-- the byte in its first column
+abbrev pub firstByte : ℕ → List ℕ → ℕ
+firstByte e xs = getD xs (startOf e) 0
 
 -- the texts of an edition, where s, t and u are those of the editions 1, 3 and 4
 abbrev pub inEdition : Edition → Texts → Texts → Texts → Texts

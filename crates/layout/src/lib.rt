@@ -4,6 +4,7 @@
 // The definitions of specs/ are the document; the functions here are what they compute.
 pub mod legal_texts;
 pub mod page;
+pub mod widths;
 
 ghost use mathlib.Core.Path.{_≡_};
 ghost use Rattle.layout.specs.Editions.{editionOf, asked, editionNumber, lengthOf, lastOf};

@@ -1,24 +1,18 @@
-// The elements of a record: where each stands, and whether what stands there is legal.
+// The elements of a record: the characters of each, and whether they are legal.
 //
-// `page` of specs/Page.antt is the page. Its widths stand here as one row of digits, a digit an
-// element and the first for none, so that a loop reads one byte for each.
+// `page` of specs/Page.antt is the page.
 use crate::Edition;
 use crate::legal_texts;
+use crate::widths::start_of;
+use crate::widths::width_of;
 ghost use mathlib.Core.Path.{_≡_};
 ghost use mathlib.Core.Bool.{_&&_};
-ghost use Prim.Native.Nat.{_≤_, _-_};
+ghost use Prim.Native.Nat.{_+_, _<_, _≤_};
 ghost use lib.ListN.{length, take, drop};
 ghost use Rattle.text.specs.Bytes.{blank};
 ghost use Rattle.text.specs.First.{firstOf};
 ghost use Rattle.layout.specs.Editions.{lengthOf, lastOf};
-ghost use Rattle.layout.specs.Page.{WidthRow, widthOf, startOf, textOf, mayBeBlank, legalText, legal};
-
-// The widths, a digit for each.
-pub fn widths() -> [u8; 102]
-    ensures { λ r. ⌜ WidthRow r ⌝ }
-{
-    *b"014222134112121213134211111113112222212111721111311313112221111111111111111111111111111332233311111111"
-}
+ghost use Rattle.layout.specs.Page.{widthOf, startOf, textOf, firstByte, mayBeBlank, legalText, legal};
 
 // As many of the columns from `start` on as the record has, at most `width`.
 pub fn columns(line: &[u8], start: usize, width: usize) -> &[u8]
@@ -32,13 +26,6 @@ pub fn columns(line: &[u8], start: usize, width: usize) -> &[u8]
         return &line[start..];
     }
     &line[start..start + width]
-}
-
-// The number that a digit says.
-pub fn digit(b: u8) -> usize
-    ensures { λ r. ⌜ r ≡ b - 48 ⌝ }
-{
-    if b < 48 { 0 } else { (b - 48) as usize }
 }
 
 // May element e be blank?
@@ -74,12 +61,11 @@ pub fn first_illegal(edition: Edition, line: &[u8]) -> usize
     requires { ⌜ length (now line) ≡ lengthOf edition ⌝ }
     ensures { λ r. ⌜ r ≡ firstOf (lastOf edition) (legal edition (now (line .entry))) ⌝ }
 {
-    let widths = widths();
     let last = edition.last();
     let mut at = 0;
     let mut e = 1;
     while e <= last {
-        let end = at + digit(widths[e]);
+        let end = at + width_of(e);
         if !is_legal(edition, e, &line[at..end]) {
             return e;
         }
@@ -89,42 +75,30 @@ pub fn first_illegal(edition: Edition, line: &[u8]) -> usize
     0
 }
 
-// How many columns stand before element e.
-fn start_of(e: usize) -> usize
-    requires { ⌜ e ≤ 101 ⌝ }
-    ensures { λ r. ⌜ r ≡ startOf e ⌝ }
-{
-    let widths = widths();
-    let mut at = 0;
-    let mut k = 0;
-    while k < e {
-        at += digit(widths[k]);
-        k += 1;
-    }
-    at
-}
-
 // The characters of element e: as many of its columns as the record has.
 pub fn text_of(line: &[u8], e: usize) -> &[u8]
     ensures { λ r. ⌜ now r ≡ textOf e (now (line .entry)) ⌝ }
     ensures { λ r. ⌜ length (now r) ≤ 7 ⌝ }
 {
-    if 101 < e {
-        return &line[..0];
-    }
-    let widths = widths();
-    columns(line, start_of(e), digit(widths[e]))
+    columns(line, start_of(e), width_of(e))
 }
 
-// How many columns element e has.
-pub fn width_of(e: usize) -> usize
-    ensures { λ r. ⌜ r ≡ widthOf e ⌝ }
+// The same of a record that has all its columns.
+pub fn full_text(line: &[u8], e: usize) -> &[u8]
+    requires { ⌜ startOf e + widthOf e ≤ length (now line) ⌝ }
+    ensures { λ r. ⌜ now r ≡ textOf e (now (line .entry)) ⌝ }
+    ensures { λ r. ⌜ length (now r) ≤ 7 ⌝ }
 {
-    if 101 < e {
-        return 0;
-    }
-    let widths = widths();
-    digit(widths[e])
+    let start = start_of(e);
+    &line[start..start + width_of(e)]
+}
+
+// The byte in its first column.
+pub fn first_byte(line: &[u8], e: usize) -> u8
+    requires { ⌜ startOf e < length (now line) ⌝ }
+    ensures { λ r. ⌜ r ≡ firstByte e (now (line .entry)) ⌝ }
+{
+    line[start_of(e)]
 }
 
 // Is element e blank, where it may be, or legal?

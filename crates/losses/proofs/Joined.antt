@@ -1,7 +1,7 @@
 -- Words put together: two that are or-ed are the word of either test; a word moved up is the word of the same test among more elements. Assumes nothing.
-use mathlib.Core.Path.{_≡_, refl, sym, ap, ap₂, _∙_}
+use mathlib.Core.Path.{_≡_, refl, sym, ap, _∙_}
 use mathlib.Core.Bool.{Bool, true, false, _||_}
-use Prim.Native.Nat.{ℕ, zero, suc, _+_, _-_, _*_, _^_, _<_, _≤_, max}
+use Prim.Native.Nat.{ℕ, zero, suc, _+_, _-_, _*_, _^_, _≤_, max}
 use native.Mathlib.Nat.{pow-suc, mul-assoc, add-suc, suc-add, add-zero, zero-add}
 use native.Mathlib.Omega.{arith}
 use lib.Bits.{bitOr, or-step}
@@ -22,14 +22,6 @@ or-words f g k (suc n) =
     or-step (bit (f k) + word f (suc k) n * 2) (bit (g k) + word g (suc k) n * 2) ∙
     rw (half (f k) (word f (suc k) n), half (g k) (word g (suc k) n), odd (f k) (word f (suc k) n), odd (g k) (word g (suc k) n), or-words f g (suc k) n, max-bits (f k) (g k))
     (omega arith)
-
--- tests that agree place by place, from places of their own on
-pub moved-word : (f g : ℕ → Bool) (j k n : ℕ) → ((i : ℕ) → i < n → f (j + i) ≡ g (k + i)) → word f j n ≡ word g k n
-unfolding word
-moved-word f g j k zero a = refl
-moved-word f g j k (suc n) a =
-    ap₂ (λ (b : Bool) (w : ℕ). bit b + w * 2) (rw (add-zero j, add-zero k) at (a 0 (omega arith)))
-    (moved-word f g (suc j) (suc k) n (λ i h. rw (suc-add j i, ← add-suc j i, suc-add k i, ← add-suc k i) (a (suc i) (omega arith))))
 
 -- the first m elements, and then the others
 word-split : (f : ℕ → Bool) (k m n : ℕ) → word f k (m + n) ≡ word f k m + word f (k + m) n * 2 ^ m

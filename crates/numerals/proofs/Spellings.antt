@@ -21,7 +21,7 @@ module _ (base nought : ℕ) where
   value-append n [] t = refl
   value-append n (b ∷ s) t = value-append (n * base + (b - nought)) s t
 
-  value-last : (s : List ℕ) (b : ℕ) → valueFrom base nought 0 (s ++ b ∷ []) ≡ valueFrom base nought 0 s * base + (b - nought)
+  pub value-last : (s : List ℕ) (b : ℕ) → valueFrom base nought 0 (s ++ b ∷ []) ≡ valueFrom base nought 0 s * base + (b - nought)
   unfolding valueFrom
   value-last s b = value-append 0 s (b ∷ [])
 

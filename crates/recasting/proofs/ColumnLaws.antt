@@ -7,12 +7,11 @@ use Prim.Native.Nat.{ℕ}
 use native.Mathlib.Omega.{arith}
 use lib.ListN.{getD}
 use Rattle.text.specs.Bytes.{blank}
-use Rattle.text.proofs.Parts.{one-column}
 use Rattle.layout.specs.declared.Edition.{Edition}
 use Rattle.layout.specs.declared.Edition.the-variants.{One, Three, Four}
 use Rattle.layout.specs.Page.{page, element, textOf, textsOf}
 use Rattle.layout.proofs.Beyond.{last-above}
-use Rattle.layout.proofs.RecordLaws.{shortest}
+use Rattle.layout.proofs.RecordLaws.{begins}
 use Rattle.checking.specs.Acceptable.{Acceptable}
 use Rattle.hemispheres.specs.Digits.{crosses}
 use Rattle.hemispheres.proofs.Request9Digits.{standing, digit-there, HasDigit, every-place}
@@ -46,7 +45,7 @@ module _ (from to : Edition) (xs : List ℕ) (a : Acceptable from xs) where
   -- the column that stands there
   own-six : getD (textOf 6 xs) 0 32 ∷ [] ≡ textOf 6 xs
   own-six =
-      let one : textOf 6 xs ≡ getD xs 11 0 ∷ [] = six xs ∙ one-column xs 11 (omega (arith, a .full, shortest from)) in
+      let one = six xs (omega (arith, a .full, begins from 6 (omega arith) (omega (arith, last-above from)))) in
       ap (λ (t : List ℕ). getD t 0 32 ∷ []) one ∙ sym one
 
   pub column : Column

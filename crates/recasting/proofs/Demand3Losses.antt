@@ -8,26 +8,27 @@ use Prim.Native.Nat.{ℕ, _<_, _≤_}
 use native.Mathlib.Omega.{arith}
 use borrow.Author.Tests.{eq-eqb, eqb-true, leb-true, leb-false}
 use lib.Dec.{eqb, leb, lit≤}
-use lib.ListN.{length, getD}
+use lib.ListN.{length}
 use Rattle.text.specs.Bytes.{every, blank}
 use Rattle.text.specs.Texts.{among, allows}
 use Rattle.text.proofs.Among.{either-half, among-cases}
 use Rattle.losses.specs.Losses.{noLosses, lossesOf, lostList, member, hasLoss, countOf, lowestOf, first, Rising}
 use Rattle.losses.specs.declared.Losses.{Losses}
 use Rattle.losses.proofs.Demand3Losses.{listed-exactly, not-listed, test-is-membership, rising, ones-are-length, lowest-is-head, empty-set, empty-list}
-use Rattle.text.proofs.Parts.{one-column}
 use Rattle.layout.specs.declared.Edition.{Edition}
 use Rattle.layout.specs.declared.Edition.the-variants.{One, Three, Four}
 use Rattle.layout.specs.declared.Named.{Named}
 use Rattle.layout.specs.declared.Named.the-variants.{Known, Unknown}
 use Rattle.layout.specs.Editions.{editionOf, lastOf}
-use Rattle.layout.specs.Page.{page, element, columns, startOf, textOf, textsOf, mayBeBlank, legalText, legal}
-use Rattle.layout.proofs.Beyond.{text-none}
+use Rattle.layout.specs.Page.{page, element, textOf, firstByte, textsOf, mayBeBlank, legalText, legal}
+use Rattle.layout.proofs.Beyond.{last-above, text-none}
+use Rattle.layout.proofs.Demand2Columns.{column-111}
 use Rattle.layout.proofs.Elements.{last-below}
-use Rattle.layout.proofs.RecordLaws.{shortest, same-record}
+use Rattle.layout.proofs.Parts.{one-byte}
+use Rattle.layout.proofs.RecordLaws.{shortest, begins, same-record}
 use Rattle.checking.specs.Check.{column}
 use Rattle.checking.specs.Acceptable.{Acceptable}
-use Rattle.checking.proofs.Placed.{column-at}
+use Rattle.checking.proofs.Placed.{first-of}
 use Rattle.hemispheres.specs.Digits.{crosses}
 use Rattle.meanings.specs.Meaning.{senseOf, senseNumber}
 use Rattle.meanings.specs.Kept.{keeps, lostText, lostAt}
@@ -136,10 +137,10 @@ module _ (ed : Edition) (xs : List ℕ) (a : Acceptable ed xs) where
 
   -- column 111 names the edition that it named
   version-was : textOf 65 xs ≡ digitOf ed ∷ []
-  unfolding textOf startOf columns element page
+  unfolding element page
   version-was =
-      one-column xs 110 (omega (arith, a .full, shortest ed)) ∙
-      ap (λ (n : ℕ). n ∷ []) (names-digit ed (getD xs 110 0) (ap editionOf (sym (column-at xs 111 (lit≤ tt) (omega (arith, a .full, shortest ed)))) ∙ a .names))
+      one-byte xs 65 refl (omega (arith, a .full, begins ed 65 (lit≤ tt) (omega (arith, last-above ed)))) ∙
+      ap (λ (n : ℕ). n ∷ []) (names-digit ed (firstByte 65 xs) (ap editionOf (sym (first-of xs 65 111 column-111 (omega (arith, a .full, shortest ed)))) ∙ a .names))
 
   pub same-edition : recastRecord ed ed xs ≡ xs
   same-edition = same-record ed (result ed ed xs a) xs same (result-long ed ed xs a) (a .full)

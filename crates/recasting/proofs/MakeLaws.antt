@@ -9,23 +9,23 @@ use native.Mathlib.Omega.{arith}
 use borrow.Author.Tests.{eqb-true, eqb-false, leb-true, leb-false}
 use lib.Dec.{eqb, leb}
 use lib.ListN.{length, take, drop, set, length-set}
-use lib.Seq.{length-take-le, take-set-le, drop-set-lt, getD-set-same, getD-set-other}
-use Rattle.text.proofs.Parts.{one-column}
+use lib.Seq.{length-take-le, take-set-le, drop-set-lt, getD-set-same}
 use Rattle.layout.specs.declared.Edition.{Edition}
 use Rattle.layout.specs.declared.Edition.the-variants.{Four}
 use Rattle.layout.specs.Editions.{lengthOf, lastOf}
 use Rattle.layout.specs.Page.{page, element, columns, widthOf, startOf, textOf, legalText}
 use Rattle.layout.specs.Records.{recordFrom}
-use Rattle.layout.proofs.Beyond.{text-past, width-past}
+use Rattle.layout.proofs.Beyond.{last-above, text-past, width-past}
 use Rattle.layout.proofs.Columns.{start-next, start-rises}
 use Rattle.layout.proofs.Elements.{last-below}
-use Rattle.layout.proofs.RecordLaws.{most, shortest, ends, record-long, record-text, same-record, text-long, part-of-front}
+use Rattle.layout.proofs.Parts.{one-byte}
+use Rattle.layout.proofs.RecordLaws.{most, ends, begins, record-long, record-text, same-record, text-long, part-of-front}
 use Rattle.checking.specs.declared.Answer.the-variants.{Accepted}
 use Rattle.checking.specs.Check.{checked}
 use Rattle.checking.specs.Acceptable.{Acceptable}
 use Rattle.checking.proofs.Demand2Acceptance.{accepted-exactly}
 use Rattle.meanings.specs.Kept.{lostText, lostAt}
-use Rattle.blanking.specs.Columns.{blankedText}
+use Rattle.blanking.specs.LostBytes.{blankedText}
 use Rattle.recasting.specs.Recast.{hemisphere, digitOf, blanks, widened, recastText, recastRecord}
 use Rattle.recasting.proofs.WidenLaws.{blanks-long, widened-long, same-lost, all-legal}
 
@@ -51,21 +51,21 @@ outside xs i b e room = ⊎-elim before behind
     behind : startOf (e + 1) ≤ i → take (widthOf e) (drop (startOf e) (set xs i b)) ≡ take (widthOf e) (drop (startOf e) xs)
     behind k = sym (front (set xs i b) (length-set xs i b)) ∙ ap (λ (t : List ℕ). take (widthOf e) (drop (startOf e) t)) (take-set-le (startOf (e + 1)) xs i b k) ∙ front xs refl
 
--- element k has column i alone, so any other element lies before it or behind it
-side : (k i e : ℕ) → startOf k ≡ i → startOf (k + 1) ≡ i + 1 → (e ≡ k → ⊥) → (i < startOf e) ⊎ (startOf (e + 1) ≤ i)
-side k i e f g other = by (leb e k) refl
-  where
-    by : (x : Bool) → leb e k ≡ x → (i < startOf e) ⊎ (startOf (e + 1) ≤ i)
-    by true h = ⊎-elim (λ z. absurd (other z)) (λ l. inr (omega (arith, start-rises (e + 1) k (omega arith)))) (eq-or-lt-of-le (leb-true e k h))
-    by false h = inl (omega (arith, start-rises (k + 1) e (omega (arith, leb-false e k h))))
+-- element k has one column, so any other element lies before it or behind it
+module _ (k : ℕ) (one : widthOf k ≡ 1) where
+  side : (e : ℕ) → eqb e k ≡ false → (startOf k < startOf e) ⊎ (startOf (e + 1) ≤ startOf k)
+  side e other = by (leb e k) refl
+    where
+      by : (x : Bool) → leb e k ≡ x → (startOf k < startOf e) ⊎ (startOf (e + 1) ≤ startOf k)
+      by true h = ⊎-elim (λ z. absurd (eqb-false e k other z)) (λ l. inr (start-rises (e + 1) k (omega arith))) (eq-or-lt-of-le (leb-true e k h))
+      by false h = inl (omega (arith, one, start-next k, start-rises (k + 1) e (omega (arith, leb-false e k h))))
 
-beside-six : (e : ℕ) → eqb e 6 ≡ false → (11 < startOf e) ⊎ (startOf (e + 1) ≤ 11)
-unfolding startOf columns page
-beside-six e h = side 6 11 e refl refl (eqb-false e 6 h)
+  -- a byte set there is its text, and no other element's
+  set-own : (xs : List ℕ) (b : ℕ) → startOf k < length xs → textOf k (set xs (startOf k) b) ≡ b ∷ []
+  set-own xs b h = one-byte (set xs (startOf k) b) k one (omega (arith, length-set xs (startOf k) b)) ∙ ap (λ (n : ℕ). n ∷ []) (getD-set-same xs (startOf k) b 0 h)
 
-beside-version : (e : ℕ) → eqb e 65 ≡ false → (110 < startOf e) ⊎ (startOf (e + 1) ≤ 110)
-unfolding startOf columns page
-beside-version e h = side 65 110 e refl refl (eqb-false e 65 h)
+  set-other : (xs : List ℕ) (b e : ℕ) → eqb e k ≡ false → startOf (e + 1) ≤ length xs → textOf e (set xs (startOf k) b) ≡ textOf e xs
+  set-other xs b e other room = outside xs (startOf k) b e room (side e other)
 
 module _ (from to : Edition) (xs : List ℕ) (full : length xs ≡ lengthOf from) where
   pub recast-wide : (e : ℕ) → length (recastText from to xs e) ≡ widthOf e
@@ -103,33 +103,39 @@ module _ (from to : Edition) (xs : List ℕ) (ok : checked xs ≡ Accepted from)
       after-long = same-long ∙ row-long
 
       module _ (b d : ℕ) (f : b ≡ hemisphere from to xs) (g : d ≡ digitOf to) where
-        abbrev made : List ℕ
-        made = set (set after 11 b) 110 d
+        abbrev once : List ℕ
+        once = set after (startOf 6) b
 
-        once : length (set after 11 b) ≡ lengthOf to
-        once = length-set after 11 b ∙ after-long
+        abbrev made : List ℕ
+        made = set once (startOf 65) d
+
+        once-long : length once ≡ lengthOf to
+        once-long = length-set after (startOf 6) b ∙ after-long
 
         made-long : length made ≡ lengthOf to
-        made-long = length-set (set after 11 b) 110 d ∙ once
+        made-long = length-set once (startOf 65) d ∙ once-long
+
+        -- an element of the target ends within the row
+        room : (e : ℕ) → e ≤ lastOf to → startOf (e + 1) ≤ lengthOf to
+        room e l = omega (arith, start-next e, ends to e l)
 
         at-six : textOf 6 made ≡ recastText from to xs 6
-        unfolding textOf startOf columns element page recastText
+        unfolding element page recastText
         at-six =
-            one-column made 11 (omega (arith, made-long, shortest to)) ∙
-            ap (λ (n : ℕ). n ∷ []) (getD-set-other (set after 11 b) 110 11 d 0 (λ z. omega arith) ∙ getD-set-same after 11 b 0 (omega (arith, after-long, shortest to)) ∙ f)
+            let l : 6 ≤ lastOf to = omega (arith, last-above to) in
+            set-other 65 refl once d 6 refl (omega (arith, once-long, room 6 l)) ∙ set-own 6 refl after b (omega (arith, after-long, begins to 6 (omega arith) l)) ∙ ap (λ (n : ℕ). n ∷ []) f
 
         at-version : textOf 65 made ≡ recastText from to xs 65
-        unfolding textOf startOf columns element page recastText
-        at-version = one-column made 110 (omega (arith, made-long, shortest to)) ∙ ap (λ (n : ℕ). n ∷ []) (getD-set-same (set after 11 b) 110 d 0 (omega (arith, once, shortest to)) ∙ g)
+        unfolding element page recastText
+        at-version = set-own 65 refl once d (omega (arith, once-long, begins to 65 (omega arith) (omega (arith, last-above to)))) ∙ ap (λ (n : ℕ). n ∷ []) g
 
         elsewhere : (e : ℕ) → 1 ≤ e → e ≤ lastOf to → eqb e 6 ≡ false → eqb e 65 ≡ false → textOf e made ≡ recastText from to xs e
-        unfolding recastText blankedText
+        unfolding element page recastText blankedText
         elsewhere e h l p q =
-            let room : startOf (e + 1) ≤ lengthOf to = omega (arith, start-next e, ends to e l) in
             let lost : lostAt from to row e ≡ lostAt from to xs e = ap (lostText from to e) (row-text e l) ∙ same-lost from xs (acceptable .full) to e in
-            outside (set after 11 b) 110 d e (omega (arith, once)) (beside-version e q) ∙ outside after 11 b e (omega (arith, after-long)) (beside-six e p) ∙ blanked e h l ∙ rw (p, q, lost, row-text e l)
+            set-other 65 refl once d e q (omega (arith, once-long, room e l)) ∙ set-other 6 refl after b e p (omega (arith, after-long, room e l)) ∙ blanked e h l ∙ rw (p, q, lost, row-text e l)
 
-        pub as-recast : set (set after 11 b) 110 d ≡ recastRecord from to xs
+        pub as-recast : set (set after (startOf 6) b) (startOf 65) d ≡ recastRecord from to xs
         unfolding recastRecord
         as-recast = same-record to made (recordFrom to (recastText from to xs)) same made-long (record-long (recastText from to xs) (recast-wide from to xs (acceptable .full)) to)
           where

@@ -8,11 +8,14 @@ use checking::Answer;
 use layout::Edition;
 use layout::Named;
 use layout::Refusal;
+use layout::page;
+use layout::widths;
 use losses::Losses;
 ghost use mathlib.Core.Path.{_≡_};
-ghost use Prim.Native.Nat.{_≤_};
-ghost use lib.ListN.{length, take, drop};
+ghost use Prim.Native.Nat.{_<_, _≤_};
+ghost use lib.ListN.{length, take, drop, set};
 ghost use Rattle.layout.specs.Editions.{asked, lengthOf};
+ghost use Rattle.layout.specs.Page.{startOf};
 ghost use Rattle.checking.specs.Check.{checked};
 ghost use Rattle.recasting.specs.Recast.{hemisphere, digitOf, widened, recastRecord, recastIn, filledBy, recastTo, leftTo, recastOf, leftOf, outcomeNumber, outcomePlace, outcomeLosses};
 
@@ -59,15 +62,15 @@ fn hemisphere_of(from: Edition, to: Edition, line: &[u8]) -> u8
     requires { ⌜ 131 ≤ length (now line) ⌝ }
     ensures { λ r. ⌜ r ≡ hemisphere from to (now (line .entry)) ⌝ }
 {
-    let digit = &line[11..12];
+    let digit = page::full_text(line, 6);
     if !hemispheres::is_crossing(from, to) {
-        return line[11];
+        return page::first_byte(line, 6);
     }
     if text::is_blank(digit) {
-        return line[11];
+        return page::first_byte(line, 6);
     }
-    let latitude = &line[12..15];
-    let longitude = &line[15..19];
+    let latitude = page::full_text(line, 7);
+    let longitude = page::full_text(line, 8);
     hemispheres::lowest_digit(
         from,
         to,
@@ -94,7 +97,7 @@ fn fill_rest(from: Edition, line: &[u8], rest: &mut [u8])
         bytes::copy(&blanks, rest);
         return;
     }
-    bytes::copy(&line[131..159], rest);
+    bytes::copy(&line[Edition::LENGTH_1..Edition::LENGTH_3], rest);
 }
 
 // Copies the record into a row of the target's length. The lengths stand in the code, so that the
@@ -103,12 +106,20 @@ fn fill(from: Edition, to: Edition, line: &[u8], row: &mut [u8])
     requires { ⌜ (length (now line) ≡ lengthOf from) × (length (now row) ≡ lengthOf to) ⌝ }
     ensures { λ _. ⌜ now (row .exit) ≡ take (lengthOf to) (widened (now (line .entry))) ⌝ }
 {
-    bytes::copy(&line[..131], row);
+    bytes::copy(&line[..Edition::LENGTH_1], row);
     if hemispheres::is_first(to) {
         return;
     }
-    let rest = &mut row[131..];
+    let rest = &mut row[Edition::LENGTH_1..];
     fill_rest(from, line, rest);
+}
+
+// Puts a byte in the first column of element e.
+fn put(row: &mut [u8], e: usize, b: u8)
+    requires { ⌜ startOf e < length (now row) ⌝ }
+    ensures { λ _. ⌜ now (row .exit) ≡ set (now (row .entry)) (startOf e) b ⌝ }
+{
+    row[widths::start_of(e)] = b;
 }
 
 // Makes the recast record in a row of the target's length.
@@ -118,8 +129,8 @@ fn make(from: Edition, to: Edition, line: &[u8], row: &mut [u8])
 {
     fill(from, to, line, row);
     blanking::blank_lost(from, to, row);
-    row[11] = hemisphere_of(from, to, line);
-    row[110] = digit_of(to);
+    put(row, 6, hemisphere_of(from, to, line));
+    put(row, 65, digit_of(to));
 }
 
 // Recasts an accepted record to an edition that is held, straight into the lent buffer: no byte of it is

@@ -5,7 +5,7 @@
 // as it can be, whatever the reading; whether the text is legal and reads as the reading is asked
 // afterwards, by comparing the two readings part by part.
 use layout::Edition;
-use layout::page;
+use layout::widths;
 use numerals::Numeral;
 use reading::Kind;
 use reading::Place;
@@ -199,7 +199,7 @@ pub fn put_all(edition: Edition, readings: [Reading; 101], row: &mut [u8])
     let mut at = 0;
     let mut e = 1;
     while e <= 101 {
-        let width = page::width_of(e);
+        let width = widths::width_of(e);
         let k = reading::lead_of(e) - 1;
         let r = readings[k];
         numerals::put(row, at, width, numeral_for(edition, e, r));

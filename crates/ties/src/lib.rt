@@ -1,8 +1,7 @@
 // The ties between elements.
 //
-// Each tie is a test of the texts of its elements. `holds` hands it their columns; ties 7 and 10 take
-// their own. Columns that a record does not have are taken as blank, so no tie asks how long the record
-// is.
+// Each tie is a test of the texts of its elements. `holds` hands it those; ties 7 and 10 take their own.
+// Columns that a record does not have are taken as blank, so no tie asks how long the record is.
 use layout::Edition;
 use layout::page;
 ghost use mathlib.Core.Path.{_≡_};
@@ -125,19 +124,11 @@ fn both(first: bool, second: bool) -> bool
 fn digit_tie(line: &[u8]) -> bool
     ensures { λ r. ⌜ ((ed : Edition) → r ≡ tie ed (now (line .entry)) 7) ⌝ }
 {
-    let format = page::columns(line, 0, 1);
-    let air = tenths_fit(format, page::columns(line, 30, 3));
-    let dew_point = measured_fit(
-        format,
-        page::columns(line, 33, 1),
-        page::columns(line, 34, 3),
-    );
-    let sea = tenths_fit(format, page::columns(line, 50, 3));
-    let wet_bulb = measured_fit(
-        format,
-        page::columns(line, 88, 1),
-        page::columns(line, 89, 3),
-    );
+    let format = page::text_of(line, 1);
+    let air = tenths_fit(format, page::text_of(line, 17));
+    let dew_point = measured_fit(format, page::text_of(line, 18), page::text_of(line, 19));
+    let sea = tenths_fit(format, page::text_of(line, 29));
+    let wet_bulb = measured_fit(format, page::text_of(line, 50), page::text_of(line, 51));
     both(air, both(dew_point, both(sea, wet_bulb)))
 }
 
@@ -153,9 +144,9 @@ fn wind_tie(speed: &[u8], indicator: &[u8]) -> bool
 fn day_tie(line: &[u8]) -> bool
     ensures { λ r. ⌜ ((ed : Edition) → r ≡ tie ed (now (line .entry)) 10) ⌝ }
 {
-    let year = text::number_of(page::columns(line, 1, 4));
-    let month = text::number_of(page::columns(line, 5, 2));
-    let day = text::number_of(page::columns(line, 7, 2));
+    let year = text::number_of(page::text_of(line, 2));
+    let month = text::number_of(page::text_of(line, 3));
+    let day = text::number_of(page::text_of(line, 4));
     day <= calendar::last_day(calendar::is_leap(year), month)
 }
 
@@ -168,22 +159,18 @@ fn holds(edition: Edition, line: &[u8], k: usize) -> bool
 {
     match k {
         1 => place_tie(
-            page::columns(line, 11, 1),
-            page::columns(line, 12, 3),
-            page::columns(line, 15, 4),
+            page::text_of(line, 6),
+            page::text_of(line, 7),
+            page::text_of(line, 8),
         ),
-        2 => octant_tie(
-            edition,
-            page::columns(line, 11, 1),
-            page::columns(line, 15, 4),
-        ),
-        3 => sign_tie(page::columns(line, 29, 1), page::columns(line, 30, 3)),
-        4 => sign_tie(page::columns(line, 33, 1), page::columns(line, 34, 3)),
-        5 => sign_tie(page::columns(line, 49, 1), page::columns(line, 50, 3)),
-        6 => sign_tie(page::columns(line, 88, 1), page::columns(line, 89, 3)),
+        2 => octant_tie(edition, page::text_of(line, 6), page::text_of(line, 8)),
+        3 => sign_tie(page::text_of(line, 16), page::text_of(line, 17)),
+        4 => sign_tie(page::text_of(line, 18), page::text_of(line, 19)),
+        5 => sign_tie(page::text_of(line, 28), page::text_of(line, 29)),
+        6 => sign_tie(page::text_of(line, 50), page::text_of(line, 51)),
         7 => digit_tie(line),
-        8 => wind_tie(page::columns(line, 27, 2), page::columns(line, 26, 1)),
-        9 => wind_tie(page::columns(line, 148, 3), page::columns(line, 26, 1)),
+        8 => wind_tie(page::text_of(line, 15), page::text_of(line, 14)),
+        9 => wind_tie(page::text_of(line, 93), page::text_of(line, 14)),
         10 => day_tie(line),
         _ => true,
     }

@@ -1,26 +1,30 @@
 -- `blanking::blank_codes` meets its contract. Assumes nothing.
 use borrow.Author.Needs.{needs}
+use mathlib.Core.Bool.{_||_}
 use mathlib.Core.Path.{refl}
-use Rattle.blanking.specs.Columns.{codesLost}
+use native.Mathlib.Omega.{arith}
+use lib.Dec.{lit≤}
+use Rattle.layout.proofs.Columns.{start-shared}
+use Rattle.blanking.specs.LostBytes.{some, codesLost}
 use Rattle.blanking.proofs.Blanked.{then, idle, taken}
 use Rattle.blanking.proofs.blank_codes.Statement.{statement}
 use Rattle.blanking.proofs.blank_codes.Tie as tie
 
 returns : tie.Need-returns
 unfolding codesLost
-returns c = idle codesLost (λ j b. refl) (c .before .before .args .changed) (c .if1 .taken) _
+returns c = idle codesLost (λ at b. refl) (c .before .before .args .changed) (c .if1 .taken) _
 
-blank-column-requires : tie.Need-blank-column-requires
-blank-column-requires c κs = search needs
+blank-requires : tie.Need-blank-requires
+blank-requires c κs = ((lit≤ tt, omega (arith, start-shared 41 (lit≤ tt))), (lit≤ tt, lit≤ tt))
 
-blank-column-requires-2 : tie.Need-blank-column-requires-2
-blank-column-requires-2 c κs = search needs
+blank-requires-2 : tie.Need-blank-requires-2
+blank-requires-2 c κs = ((lit≤ tt, omega (arith, start-shared 41 (lit≤ tt))), (lit≤ tt, lit≤ tt))
 
-blank-column-requires-3 : tie.Need-blank-column-requires-3
-blank-column-requires-3 c κs = search needs
+blank-requires-3 : tie.Need-blank-requires-3
+blank-requires-3 c κs = ((lit≤ tt, omega (arith, start-shared 42 (lit≤ tt))), (lit≤ tt, lit≤ tt))
 
-blank-column-requires-4 : tie.Need-blank-column-requires-4
-blank-column-requires-4 c κs = search needs
+blank-requires-4 : tie.Need-blank-requires-4
+blank-requires-4 c κs = ((lit≤ tt, omega (arith, start-shared 42 (lit≤ tt))), (lit≤ tt, lit≤ tt))
 
 same-length : tie.Need-same-length
 same-length c = search needs
@@ -33,16 +37,9 @@ returns-2 c =
     let two = three .before .before .before .before in
     let one = two .before .before .before .before in
     let start = one .before .before in
-    taken codesLost (start .before .before .args .changed) (start .if1 .left) _ _ (then _ _ _ _ _ (then _ _ _ _ _ (then _ _ _ _ _ (one .blank-column .ensures) (two .blank-column2 .ensures)) (three .blank-column3 .ensures)) (four .blank-column4 .ensures))
+    taken codesLost (start .before .before .args .changed) (start .if1 .left) _ _ (then (λ at b. (some 40 40 49 49 at b || some 40 40 52 52 at b) || some 41 41 52 52 at b) (some 41 41 55 57) _ _ _
+    (then (λ at b. some 40 40 49 49 at b || some 40 40 52 52 at b) (some 41 41 52 52) _ _ _
+    (then (some 40 40 49 49) (some 40 40 52 52) _ _ _ (one .blank .ensures) (two .blank2 .ensures)) (three .blank3 .ensures)) (four .blank4 .ensures))
 
 pub blank-codes-spec : {M : Type 1} → statement M
-blank-codes-spec =
-    tie.close
-    (tie.spec
-    returns
-    blank-column-requires
-    blank-column-requires-2
-    blank-column-requires-3
-    blank-column-requires-4
-    same-length
-    returns-2)
+blank-codes-spec = tie.close (tie.spec returns blank-requires blank-requires-2 blank-requires-3 blank-requires-4 same-length returns-2)

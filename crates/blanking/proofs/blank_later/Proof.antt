@@ -1,21 +1,24 @@
 -- `blanking::blank_later` meets its contract. Assumes nothing.
 use borrow.Author.Needs.{needs}
-use mathlib.Core.Path.{refl}
 use mathlib.Core.Bool.{false}
-use Rattle.blanking.specs.Columns.{laterLost}
+use mathlib.Core.Path.{refl}
+use native.Mathlib.Omega.{arith}
+use lib.Dec.{lit≤}
+use Rattle.layout.proofs.Columns.{start-below}
+use Rattle.blanking.specs.LostBytes.{some, laterLost}
 use Rattle.blanking.proofs.Blanked.{then, idle, taken}
 use Rattle.blanking.proofs.blank_later.Statement.{statement}
 use Rattle.blanking.proofs.blank_later.Tie as tie
 
 returns : tie.Need-returns
 unfolding laterLost
-returns c = idle (laterLost false) (λ j b. refl) (c .before .before .args .back) (c .if1 .taken) _
+returns c = idle (laterLost false) (λ at b. refl) (c .before .before .args .back) (c .if1 .taken) _
 
-blank-column-requires : tie.Need-blank-column-requires
-blank-column-requires c κs = search needs
+blank-requires : tie.Need-blank-requires
+blank-requires c κs = ((lit≤ tt, omega (arith, start-below 87 (lit≤ tt))), (lit≤ tt, lit≤ tt))
 
-blank-run-requires : tie.Need-blank-run-requires
-blank-run-requires c κs = search needs
+blank-requires-2 : tie.Need-blank-requires-2
+blank-requires-2 c κs = ((lit≤ tt, omega (arith, start-below 102 (lit≤ tt))), (lit≤ tt, lit≤ tt))
 
 same-length : tie.Need-same-length
 same-length c = search needs
@@ -26,8 +29,7 @@ returns-2 c =
     let two = c .before .before in
     let one = two .before .before .before .before in
     let start = one .before .before in
-    taken (laterLost false) (start .before .before .args .back) (start .if1 .left) _ _ (then _ _ _ _ _ (one .blank-column .ensures) (two .blank-run .ensures))
+    taken (laterLost false) (start .before .before .args .back) (start .if1 .left) _ _ (then (some 86 86 54 54) (some 94 101 54 55) _ _ _ (one .blank .ensures) (two .blank2 .ensures))
 
 pub blank-later-spec : {M : Type 1} → statement M
-blank-later-spec =
-    tie.close (tie.spec returns blank-column-requires blank-run-requires same-length returns-2)
+blank-later-spec = tie.close (tie.spec returns blank-requires blank-requires-2 same-length returns-2)

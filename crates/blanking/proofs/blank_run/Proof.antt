@@ -4,16 +4,16 @@ use Prim.Native.Nat.{ℕ, _-_, _≤_}
 use native.Mathlib.Omega.{arith}
 use borrow.Author.Needs.{needs}
 use lib.ListN.{length}
-use Rattle.blanking.specs.Columns.{run, blanked}
+use Rattle.blanking.specs.LostBytes.{run, blankedBy}
 use Rattle.blanking.proofs.Blanked.{blanked-length, one-set, no-run, run-on}
 use Rattle.blanking.proofs.blank_run.Statement.{statement}
 use Rattle.blanking.proofs.blank_run.Tie as tie
 
 abbrev Inv-loop : tie.InvT-loop
-Inv-loop row₀ at low high k₀ row k = (k ≤ 8) × (row ≡ blanked (run at k low high) row₀)
+Inv-loop row₀ at n low high k₀ row k = (k ≤ n) × (row ≡ blankedBy (run at k low high) row₀)
 
 abbrev μ-loop : tie.MeasureT-loop
-μ-loop row₀ at low high k₀ row k = 8 - k
+μ-loop row₀ at n low high k₀ row k = n - k
 
 -- the row is as long as it was
 long : (c : tie.In-loop Inv-loop μ-loop) → length (c .before .loop .row) ≡ length (c .before .before .before .args .row .now)
@@ -62,8 +62,8 @@ returns : tie.Need-returns Inv-loop μ-loop
 returns c =
     let loop = c .before .loop in
     let args = c .before .before .before .args in
-    let all : loop .k ≡ 8 = omega arith in
-    loop .inv .1 ∙ ap (λ (n : ℕ). blanked (run (args .at) n (args .low) (args .high)) (args .row .now)) all
+    let all : loop .k ≡ args .n = omega arith in
+    loop .inv .1 ∙ ap (λ (n : ℕ). blankedBy (run (args .at) n (args .low) (args .high)) (args .row .now)) all
 
 pub blank-run-spec : {M : Type 1} → statement M
 blank-run-spec =

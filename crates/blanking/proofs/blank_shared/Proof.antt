@@ -1,7 +1,7 @@
 -- `blanking::blank_shared` meets its contract. Assumes nothing.
 use borrow.Author.Needs.{needs}
-use Rattle.blanking.specs.Columns.{codesLost, countryLost, versionLost, flagsLost, sharedLost}
-use Rattle.blanking.proofs.Blanked.{then, tested}
+use Rattle.blanking.specs.LostBytes.{codesLost, countryLost, versionLost, flagsLost, sharedLost}
+use Rattle.blanking.proofs.Blanked.{then-by, tested}
 use Rattle.blanking.proofs.blank_shared.Statement.{statement}
 use Rattle.blanking.proofs.blank_shared.Tie as tie
 
@@ -39,9 +39,9 @@ returns c =
     let version = flags .before .before .before .before .before in
     let country = version .before .before .before .before .before in
     let codes = country .before .before .before .before .before in
-    then _ _ _ _ _
-    (then _ _ _ _ _
-    (then _ _ _ _ _ (tested codesLost _ _ (codes .before .is-change .ensures) _ _ (codes .blank-codes .ensures))
+    then-by _ _ _ _ _
+    (then-by _ _ _ _ _
+    (then-by _ _ _ _ _ (tested codesLost _ _ (codes .before .is-change .ensures) _ _ (codes .blank-codes .ensures))
     (tested countryLost _ _ (country .before .is-crossing .ensures) _ _ (country .blank-country .ensures)))
     (tested versionLost _ _ (version .before .is-leaving .ensures) _ _ (version .blank-version .ensures)))
     (tested flagsLost _ _ (flags .before .is-leaving2 .ensures) _ _ (flags .blank-flags .ensures))

@@ -1,20 +1,23 @@
 -- `blanking::blank_version` meets its contract. Assumes nothing.
 use borrow.Author.Needs.{needs}
 use mathlib.Core.Path.{refl}
-use Rattle.blanking.specs.Columns.{versionLost}
+use native.Mathlib.Omega.{arith}
+use lib.Dec.{lit≤}
+use Rattle.layout.proofs.Columns.{start-shared}
+use Rattle.blanking.specs.LostBytes.{some, versionLost}
 use Rattle.blanking.proofs.Blanked.{then, idle, taken}
 use Rattle.blanking.proofs.blank_version.Statement.{statement}
 use Rattle.blanking.proofs.blank_version.Tie as tie
 
 returns : tie.Need-returns
 unfolding versionLost
-returns c = idle versionLost (λ j b. refl) (c .before .before .args .back) (c .if1 .taken) _
+returns c = idle versionLost (λ at b. refl) (c .before .before .args .back) (c .if1 .taken) _
 
-blank-column-requires : tie.Need-blank-column-requires
-blank-column-requires c κs = search needs
+blank-requires : tie.Need-blank-requires
+blank-requires c κs = ((lit≤ tt, omega (arith, start-shared 65 (lit≤ tt))), (lit≤ tt, lit≤ tt))
 
-blank-column-requires-2 : tie.Need-blank-column-requires-2
-blank-column-requires-2 c κs = search needs
+blank-requires-2 : tie.Need-blank-requires-2
+blank-requires-2 c κs = ((lit≤ tt, omega (arith, start-shared 65 (lit≤ tt))), (lit≤ tt, lit≤ tt))
 
 same-length : tie.Need-same-length
 same-length c = search needs
@@ -25,9 +28,7 @@ returns-2 c =
     let two = c .before .before in
     let one = two .before .before .before .before in
     let start = one .before .before in
-    taken versionLost (start .before .before .args .back) (start .if1 .left) _ _ (then _ _ _ _ _ (one .blank-column .ensures) (two .blank-column2 .ensures))
+    taken versionLost (start .before .before .args .back) (start .if1 .left) _ _ (then (some 64 64 57 57) (some 64 64 65 65) _ _ _ (one .blank .ensures) (two .blank2 .ensures))
 
 pub blank-version-spec : {M : Type 1} → statement M
-blank-version-spec =
-    tie.close
-    (tie.spec returns blank-column-requires blank-column-requires-2 same-length returns-2)
+blank-version-spec = tie.close (tie.spec returns blank-requires blank-requires-2 same-length returns-2)

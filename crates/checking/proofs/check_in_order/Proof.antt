@@ -1,14 +1,18 @@
 -- `checking::check_in_order` meets its contract. Assumes nothing.
 use Prim.Native.Nat.{ℕ}
 use Rattle.checking.proofs.CheckLaws.{by-edition, long-enough, unknown-format, unknown-length, unprintable}
-use Rattle.checking.specs.Check.{checkedIn}
+use Rattle.checking.specs.Check.{knownFormat, checkedIn}
 use borrow.Author.Needs.{needs}
 use borrow.Author.Tests.{eq-eqb, ne-eqb, not-false, not-true}
 use Rattle.faults.proofs.Joins.{is-none}
 use mathlib.Core.List.{List}
 use mathlib.Core.Path.{_∙_, _≡_, ap, sym}
 use native.Mathlib.Omega.{arith}
+use lib.Dec.{lit≤}
+use Rattle.layout.specs.declared.Edition.the-variants.{One}
 use Rattle.layout.specs.declared.Named.{Named}
+use Rattle.layout.specs.Editions.{editionOf}
+use Rattle.layout.proofs.RecordLaws.{has-first}
 use Rattle.checking.proofs.check_in_order.Statement.{statement}
 use Rattle.checking.proofs.check_in_order.Tie as tie
 
@@ -28,8 +32,11 @@ first-unprintable-requires c κs = search needs
 returns-2 : tie.Need-returns-2
 returns-2 c = unprintable _ _ (c .before .before .before .is-known-length .ensures) (not-false _ (c .before .before .if1 .left)) _ (c .before .first-unprintable .ensures) (c .if2 .taken)
 
-shared-slice-read-strays : tie.Need-shared-slice-read-strays
-shared-slice-read-strays c = omega (arith, long-enough (c .before .before .before .before .before .before .args .line .now) _ (c .before .before .before .before .is-known-length .ensures) (not-false _ (c .before .before .before .if1 .left)))
+first-byte-requires : tie.Need-first-byte-requires
+first-byte-requires c κs =
+    let known = c .before .before .before in
+    let line = known .before .before .args .line .now in
+    has-first One line (long-enough line _ (known .is-known-length .ensures) (not-false _ (c .before .before .if1 .left))) _ (lit≤ tt) (lit≤ tt)
 
 strays-requires : tie.Need-strays-requires
 strays-requires c κs = search needs
@@ -38,10 +45,14 @@ returns-3 : tie.Need-returns-3
 returns-3 c =
     let a = c .before .before .before in
     let b = a .before .before in
-    unknown-format _ _ (b .before .is-known-length .ensures) (not-false _ (b .if1 .left)) _ (a .before .first-unprintable .ensures) (a .if2 .left) _ (is-none _ (c .before .strays .ensures (omega arith))) (ne-eqb _ 0 (c .if3 .taken))
+    unknown-format _ _ (b .before .is-known-length .ensures) (not-false _ (b .if1 .left)) _ (a .before .first-unprintable .ensures) (a .if2 .left) _ (is-none _ (c .before .strays .ensures (omega arith)) ∙ ap knownFormat (c .before .before .first-byte .ensures)) (ne-eqb _ 0 (c .if3 .taken))
 
-shared-slice-read-of-digit : tie.Need-shared-slice-read-of-digit
-shared-slice-read-of-digit c = omega (arith, long-enough (c .before .before .before .before .before .before .before .before .before .args .line .now) _ (c .before .before .before .before .before .before .before .is-known-length .ensures) (not-false _ (c .before .before .before .before .before .before .if1 .left)))
+first-byte-requires-2 : tie.Need-first-byte-requires-2
+first-byte-requires-2 c κs =
+    let printed = c .before .before .before in
+    let known = printed .before .before .before in
+    let line = known .before .before .args .line .now in
+    has-first One line (long-enough line _ (known .is-known-length .ensures) (not-false _ (printed .before .before .if1 .left))) _ (lit≤ tt) (lit≤ tt)
 
 of-digit-requires : tie.Need-of-digit-requires
 of-digit-requires c κs = search needs
@@ -62,7 +73,7 @@ returns-4 c =
     let a = f .before .before .before in
     let b = a .before .before in
     c .check-in .ensures ∙ in-edition _ (c .before .before .edition .given .1) ∙
-    by-edition _ _ (b .before .is-known-length .ensures) (not-false _ (b .if1 .left)) _ (a .before .first-unprintable .ensures) (a .if2 .left) _ (is-none _ (f .before .strays .ensures (omega arith))) (eq-eqb _ 0 (f .if3 .left)) _ (d .of-digit .ensures)
+    by-edition _ _ (b .before .is-known-length .ensures) (not-false _ (b .if1 .left)) _ (a .before .first-unprintable .ensures) (a .if2 .left) _ (is-none _ (f .before .strays .ensures (omega arith)) ∙ ap knownFormat (f .before .before .first-byte .ensures)) (eq-eqb _ 0 (f .if3 .left)) _ (d .of-digit .ensures ∙ ap editionOf (d .before .first-byte2 .ensures))
 
 returns-5 : tie.Need-returns-5
 unfolding checkedIn
@@ -72,10 +83,10 @@ returns-5 c =
     let a = f .before .before .before in
     let b = a .before .before in
     in-edition _ (c .enum-told .given .1) ∙
-    by-edition _ _ (b .before .is-known-length .ensures) (not-false _ (b .if1 .left)) _ (a .before .first-unprintable .ensures) (a .if2 .left) _ (is-none _ (f .before .strays .ensures (omega arith))) (eq-eqb _ 0 (f .if3 .left)) _ (d .of-digit .ensures)
+    by-edition _ _ (b .before .is-known-length .ensures) (not-false _ (b .if1 .left)) _ (a .before .first-unprintable .ensures) (a .if2 .left) _ (is-none _ (f .before .strays .ensures (omega arith)) ∙ ap knownFormat (f .before .before .first-byte .ensures)) (eq-eqb _ 0 (f .if3 .left)) _ (d .of-digit .ensures ∙ ap editionOf (d .before .first-byte2 .ensures))
 
 pub check-in-order-spec : {M : Type 1} → statement M
 check-in-order-spec =
     tie.close
-    (tie.spec is-known-length-requires returns first-unprintable-requires returns-2 shared-slice-read-strays strays-requires returns-3 shared-slice-read-of-digit of-digit-requires enum-known-edition
+    (tie.spec is-known-length-requires returns first-unprintable-requires returns-2 first-byte-requires strays-requires returns-3 first-byte-requires-2 of-digit-requires enum-known-edition
     check-in-requires enum-told returns-4 returns-5)

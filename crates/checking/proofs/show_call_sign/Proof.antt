@@ -3,7 +3,7 @@ use Rattle.text.proofs.Parts.{front-length}
 use Rattle.checking.proofs.SignLaws.{hidden, long, shown}
 use Rattle.checking.specs.Check.{callSignOf}
 use borrow.Author.Needs.{needs}
-use native.Mathlib.Omega.{arith}
+use lib.Dec.{lit≤}
 use Rattle.checking.proofs.show_call_sign.Statement.{statement}
 use Rattle.checking.proofs.show_call_sign.Tie as tie
 
@@ -13,14 +13,8 @@ check-requires c κs = search needs
 enum-told : tie.Need-enum-told
 enum-told c = search needs
 
-sub-part : tie.Need-sub-part
-sub-part c = search needs
-
-part-part-start : tie.Need-part-part-start
-part-part-start c = search needs
-
-part-part-end : tie.Need-part-part-end
-part-part-end c = omega (arith, long (c .before .before .before .before .args .line .now) _ _ (c .before .before .check .ensures) (c .enum-told .given .1))
+full-text-requires : tie.Need-full-text-requires
+full-text-requires c κs = long _ _ _ (c .before .before .check .ensures) (c .enum-told .given .1) _ (lit≤ tt)
 
 filled-requires : tie.Need-filled-requires
 filled-requires c κs = search needs
@@ -35,7 +29,9 @@ slice-aggregate-result-2 : tie.Need-slice-aggregate-result-2
 slice-aggregate-result-2 c = search needs
 
 returns : tie.Need-returns
-returns c = shown _ _ _ (c .before .filled .result) (c .before .before .before .before .before .check .ensures) (c .before .before .before .enum-told .given .1) (c .before .filled .ensures .1)
+returns c =
+    let part = c .before .before in
+    shown _ _ _ _ (c .before .filled .result) (part .before .before .before .check .ensures) (part .before .enum-told .given .1) (part .full-text .ensures .0) (c .before .filled .ensures .1)
 
 returns-2 : tie.Need-returns-2
 unfolding callSignOf
@@ -47,9 +43,7 @@ show-call-sign-spec =
     (tie.spec
     check-requires
     enum-told
-    sub-part
-    part-part-start
-    part-part-end
+    full-text-requires
     filled-requires
     slice-aggregate-result
     enum-told-2

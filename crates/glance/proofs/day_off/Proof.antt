@@ -1,22 +1,26 @@
 -- `glance::day_off` meets its contract. Assumes nothing.
+use native.Mathlib.Omega.{arith}
 use mathlib.Core.Path.{_∙_, ap₂, sym}
+use lib.Dec.{lit≤}
+use Rattle.layout.specs.declared.Edition.the-variants.{One}
+use Rattle.layout.proofs.RecordLaws.{ends}
 use Rattle.faults.proofs.Joins.{passed}
 use Rattle.glance.specs.Tests.{common}
 use borrow.Author.Needs.{needs}
 use Rattle.glance.proofs.day_off.Statement.{statement}
 use Rattle.glance.proofs.day_off.Tie as tie
 
-two-requires : tie.Need-two-requires
-two-requires c κs = search needs
+word-of-requires : tie.Need-word-of-requires
+word-of-requires c κs = omega (arith, ends One 3 (lit≤ tt))
 
-two-requires-2 : tie.Need-two-requires-2
-two-requires-2 c κs = search needs
+word-of-requires-2 : tie.Need-word-of-requires-2
+word-of-requires-2 c κs = omega (arith, ends One 4 (lit≤ tt))
 
 rare-requires : tie.Need-rare-requires
 rare-requires c κs = search needs
 
 returns : tie.Need-returns
-returns c = λ z. ap₂ common (sym (c .before .before .two .ensures .0)) (sym (c .before .two2 .ensures .0)) ∙ passed _ (c .rare .ensures) z
+returns c = λ z. ap₂ common (sym (c .before .before .word-of .ensures)) (sym (c .before .word-of2 .ensures)) ∙ passed _ (c .rare .ensures) z
 
 pub day-off-spec : {M : Type 1} → statement M
-day-off-spec = tie.close (tie.spec two-requires two-requires-2 rare-requires returns)
+day-off-spec = tie.close (tie.spec word-of-requires word-of-requires-2 rare-requires returns)

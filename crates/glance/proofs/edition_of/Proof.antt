@@ -1,6 +1,11 @@
 -- `glance::edition_of` meets its contract. Assumes nothing.
 use Rattle.glance.proofs.Sound.{none-said, said}
-use mathlib.Core.Path.{_∙_, sym}
+use native.Mathlib.Omega.{arith}
+use mathlib.Core.Path.{_∙_, ap, sym}
+use lib.Dec.{lit≤}
+use Rattle.layout.specs.declared.Edition.the-variants.{One}
+use Rattle.layout.specs.Editions.{editionOf}
+use Rattle.layout.proofs.RecordLaws.{begins}
 use borrow.Author.Tests.{not-false}
 use borrow.Author.Needs.{needs}
 use Rattle.glance.proofs.edition_of.Statement.{statement}
@@ -9,8 +14,8 @@ use Rattle.glance.proofs.edition_of.Tie as tie
 returns : tie.Need-returns
 returns c = λ ed e. none-said ed e
 
-shared-slice-read-of-digit : tie.Need-shared-slice-read-of-digit
-shared-slice-read-of-digit c = search needs
+first-byte-requires : tie.Need-first-byte-requires
+first-byte-requires c κs = omega (arith, begins One 65 (lit≤ tt) (lit≤ tt))
 
 of-digit-requires : tie.Need-of-digit-requires
 of-digit-requires c κs = search needs
@@ -27,7 +32,7 @@ returns-2 c = λ ed e. none-said ed e
 is-sure-requires : tie.Need-is-sure-requires
 is-sure-requires c κs =
     let named = c .before .before .before in
-    (c .if2 .left ∙ c .before .length .ensures, sym (named .before .before .of-digit .ensures) ∙ named .edition .given .1)
+    (c .if2 .left ∙ c .before .length .ensures, sym (named .before .before .of-digit .ensures ∙ ap editionOf (named .before .before .before .first-byte .ensures)) ∙ named .edition .given .1)
 
 returns-3 : tie.Need-returns-3
 returns-3 c = λ ed e. none-said ed e
@@ -47,7 +52,7 @@ edition-of-spec =
     tie.close
     (tie.spec
     returns
-    shared-slice-read-of-digit
+    first-byte-requires
     of-digit-requires
     enum-known-edition
     length-requires

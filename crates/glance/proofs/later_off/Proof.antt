@@ -1,5 +1,13 @@
 -- `glance::later_off` meets its contract. Assumes nothing.
+use Prim.Native.Nat.{ℕ}
+use native.Mathlib.Omega.{arith}
+use mathlib.Core.Path.{_∙_, ap, ap₂}
+use lib.Dec.{lit≤}
+use Rattle.layout.specs.declared.Edition.the-variants.{Three}
+use Rattle.layout.proofs.RecordLaws.{has-first}
+use Rattle.faults.specs.Faults.{no}
 use Rattle.faults.proofs.Joins.{two-of, passed}
+use Rattle.glance.specs.Tests as Tests
 use borrow.Author.Needs.{needs}
 use Rattle.glance.proofs.later_off.Statement.{statement}
 use Rattle.glance.proofs.later_off.Tie as tie
@@ -7,32 +15,28 @@ use Rattle.glance.proofs.later_off.Tie as tie
 courses-off-requires : tie.Need-courses-off-requires
 courses-off-requires c κs = search needs
 
-shared-slice-read-one-of : tie.Need-shared-slice-read-one-of
-shared-slice-read-one-of c = search needs
+first-byte-requires : tie.Need-first-byte-requires
+first-byte-requires c κs = has-first Three (c .before .before .args .line .now) (omega arith) _ (lit≤ tt) (lit≤ tt)
 
 one-of-requires : tie.Need-one-of-requires
 one-of-requires c κs = search needs
 
-shared-slice-read-alone : tie.Need-shared-slice-read-alone
-shared-slice-read-alone c = search needs
+first-byte-requires-2 : tie.Need-first-byte-requires-2
+first-byte-requires-2 c κs = has-first Three (c .before .before .before .before .args .line .now) (omega arith) _ (lit≤ tt) (lit≤ tt)
 
-shared-slice-read-alone-2 : tie.Need-shared-slice-read-alone-2
-shared-slice-read-alone-2 c = search needs
+first-byte-requires-3 : tie.Need-first-byte-requires-3
+first-byte-requires-3 c κs = has-first Three (c .before .before .before .before .before .args .line .now) (omega arith) _ (lit≤ tt) (lit≤ tt)
 
 alone-requires : tie.Need-alone-requires
 alone-requires c κs = search needs
 
 returns : tie.Need-returns
-returns c = two-of _ _ (c .before .before .before .before .before .courses-off .ensures) (two-of _ _ (passed _ (c .before .before .before .one-of .ensures)) (passed _ (c .alone .ensures)))
+returns c =
+    let speed = c .before .before in
+    let quadrant = speed .before in
+    two-of _ _ (quadrant .before .before .courses-off .ensures)
+    (two-of _ _ (passed _ (quadrant .one-of .ensures ∙ ap (λ (b : ℕ). no (Tests.neither 50 54 b)) (quadrant .before .first-byte .ensures)))
+    (passed _ (c .alone .ensures ∙ ap₂ (λ (b w : ℕ). no (Tests.needs b w)) (speed .first-byte2 .ensures) (c .before .first-byte3 .ensures))))
 
 pub later-off-spec : {M : Type 1} → statement M
-later-off-spec =
-    tie.close
-    (tie.spec
-    courses-off-requires
-    shared-slice-read-one-of
-    one-of-requires
-    shared-slice-read-alone
-    shared-slice-read-alone-2
-    alone-requires
-    returns)
+later-off-spec = tie.close (tie.spec courses-off-requires first-byte-requires one-of-requires first-byte-requires-2 first-byte-requires-3 alone-requires returns)

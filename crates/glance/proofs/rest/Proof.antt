@@ -1,9 +1,11 @@
 -- `glance::rest` meets its contract. Assumes nothing.
 use native.Mathlib.Omega.{arith}
 use mathlib.Core.Path.{_∙_, ap, ap₂, sym, subst}
+use lib.Dec.{lit≤}
 use Rattle.layout.specs.declared.Edition.{Edition}
 use Rattle.layout.specs.Editions.{lengthOf}
-use Rattle.layout.proofs.RecordLaws.{shortest}
+use Rattle.layout.proofs.Beyond.{last-above}
+use Rattle.layout.proofs.RecordLaws.{ends, begins}
 use Rattle.faults.proofs.Joins.{passed}
 use Rattle.glance.specs.Tests.{octantNear}
 use Rattle.glance.specs.Sure.{Rest}
@@ -14,14 +16,11 @@ use Rattle.glance.proofs.rest.Tie as tie
 enum-told : tie.Need-enum-told
 enum-told c = search needs
 
-shared-slice-read-wide : tie.Need-shared-slice-read-wide
-shared-slice-read-wide c = let start = c .before .before .before .before in omega (arith, start .pre, shortest (start .args .edition))
+first-byte-requires : tie.Need-first-byte-requires
+first-byte-requires c κs = let start = c .before .before .before in omega (arith, start .pre, begins (start .args .edition) 6 (lit≤ tt) (omega (arith, last-above (start .args .edition))))
 
-wide-requires : tie.Need-wide-requires
-wide-requires c κs = search needs
-
-four-requires : tie.Need-four-requires
-four-requires c κs = let start = c .before .before .before .before .before in omega (arith, start .pre, shortest (start .args .edition))
+word-of-requires : tie.Need-word-of-requires
+word-of-requires c κs = let start = c .before .before .before .before in omega (arith, start .pre, ends (start .args .edition) 8 (omega (arith, last-above (start .args .edition))))
 
 octant-off-requires : tie.Need-octant-off-requires
 octant-off-requires c κs = search needs
@@ -40,10 +39,10 @@ later-off-requires-2 c κs = c .before .before .before .pre ∙ ap lengthOf (c .
 
 returns : tie.Need-returns
 returns c = λ z.
-    let low = c .before .before in
-    let start = low .before .before .before .before .before in
-    subst (λ (ed : Edition). Rest ed (start .args .line .now)) (sym (low .before .before .enum-told .given .1))
-    (ap₂ octantNear (sym (low .wide .ensures .0)) (sym (c .before .four .ensures)) ∙ passed _ (c .octant-off .ensures) z)
+    let octant = c .before .before in
+    let start = octant .before .before .before .before in
+    subst (λ (ed : Edition). Rest ed (start .args .line .now)) (sym (octant .before .enum-told .given .1))
+    (ap₂ octantNear (sym (octant .first-byte .ensures)) (sym (c .before .word-of .ensures)) ∙ passed _ (c .octant-off .ensures) z)
 
 returns-2 : tie.Need-returns-2
 returns-2 c = λ z. subst (λ (ed : Edition). Rest ed (c .before .before .before .before .args .line .now)) (sym (c .before .enum-told2 .given .1)) (c .later-off .ensures z)
@@ -56,9 +55,8 @@ rest-spec =
     tie.close
     (tie.spec
     enum-told
-    shared-slice-read-wide
-    wide-requires
-    four-requires
+    first-byte-requires
+    word-of-requires
     octant-off-requires
     enum-told-2
     later-off-requires

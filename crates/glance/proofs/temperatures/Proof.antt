@@ -1,8 +1,13 @@
 -- `glance::temperatures` meets its contract. Assumes nothing.
-use mathlib.Core.Path.{_≡_, subst}
+use mathlib.Core.Path.{_≡_, ap, _∙_, subst}
 use mathlib.Core.List.{List}
 use Prim.Native.Nat.{ℕ}
-use lib.ListN.{getD}
+use native.Mathlib.Nat.{le-trans}
+use native.Mathlib.Omega.{arith}
+use lib.Dec.{lit≤}
+use Rattle.layout.specs.declared.Edition.the-variants.{One}
+use Rattle.layout.specs.Page.{page, columns, startOf, firstByte}
+use Rattle.layout.proofs.RecordLaws.{begins}
 use Rattle.faults.proofs.Joins.{two-of}
 use Rattle.glance.specs.Tests.{topDigit, halfDigit}
 use Rattle.glance.specs.Sure.{Temperature, Degrees}
@@ -11,51 +16,48 @@ use Rattle.glance.proofs.temperatures.Statement.{statement}
 use Rattle.glance.proofs.temperatures.Tie as tie
 
 -- by the digits that column 1 takes
-degrees : {xs : List ℕ} {s top half : ℕ} → top ≡ topDigit (getD xs 0 0) → half ≡ halfDigit (getD xs 0 0) → Temperature xs s top half → Degrees xs s
-degrees {xs} {s} {top} {half} e f t = subst (λ (h : ℕ). Temperature xs s (topDigit (getD xs 0 0)) h) f (subst (λ (n : ℕ). Temperature xs s n half) e t)
+degrees : {xs : List ℕ} {e top half : ℕ} → top ≡ topDigit (firstByte 1 xs) → half ≡ halfDigit (firstByte 1 xs) → Temperature xs e top half → Degrees xs e
+degrees {xs} {e} {top} {half} t h d = subst (λ (n : ℕ). Temperature xs e (topDigit (firstByte 1 xs)) n) h (subst (λ (n : ℕ). Temperature xs e n half) t d)
 
-shared-slice-read-top-digit : tie.Need-shared-slice-read-top-digit
-shared-slice-read-top-digit c = search needs
+first-byte-requires : tie.Need-first-byte-requires
+first-byte-requires c κs = omega (arith, begins One 1 (lit≤ tt) (lit≤ tt))
 
 top-digit-requires : tie.Need-top-digit-requires
 top-digit-requires c κs = search needs
 
-shared-slice-read-half-digit : tie.Need-shared-slice-read-half-digit
-shared-slice-read-half-digit c = search needs
+first-byte-requires-2 : tie.Need-first-byte-requires-2
+first-byte-requires-2 c κs = omega (arith, begins One 1 (lit≤ tt) (lit≤ tt))
 
 half-digit-requires : tie.Need-half-digit-requires
 half-digit-requires c κs = search needs
 
 temperature-requires : tie.Need-temperature-requires
-temperature-requires c κs = search needs
+unfolding startOf columns page
+temperature-requires c κs = le-trans (lit≤ tt) (c .before .before .before .before .before .pre)
 
 temperature-requires-2 : tie.Need-temperature-requires-2
-temperature-requires-2 c κs = search needs
+unfolding startOf columns page
+temperature-requires-2 c κs = le-trans (lit≤ tt) (c .before .before .before .before .before .before .pre)
 
 temperature-requires-3 : tie.Need-temperature-requires-3
-temperature-requires-3 c κs = search needs
+unfolding startOf columns page
+temperature-requires-3 c κs = le-trans (lit≤ tt) (c .before .before .before .before .before .before .before .pre)
 
 temperature-requires-4 : tie.Need-temperature-requires-4
-temperature-requires-4 c κs = search needs
+unfolding startOf columns page
+temperature-requires-4 c κs = le-trans (lit≤ tt) (c .before .before .before .before .before .before .before .before .pre)
 
 returns : tie.Need-returns
 returns c = λ z.
     let a = c .before .before .before in
-    let e = a .before .before .before .top-digit .ensures in
-    let f = a .before .half-digit .ensures in
+    let half = a .before in
+    let top = half .before .before in
+    let e = top .top-digit .ensures ∙ ap topDigit (top .before .first-byte .ensures) in
+    let f = half .half-digit .ensures ∙ ap halfDigit (half .before .first-byte2 .ensures) in
     let r = two-of _ _ (two-of _ _ (a .temperature .ensures) (c .before .before .temperature2 .ensures)) (two-of _ _ (c .before .temperature3 .ensures) (c .temperature4 .ensures)) z in
     ((degrees e f (r .0 .0), degrees e f (r .0 .1)), (degrees e f (r .1 .0), degrees e f (r .1 .1)))
 
 pub temperatures-spec : {M : Type 1} → statement M
 temperatures-spec =
     tie.close
-    (tie.spec
-    shared-slice-read-top-digit
-    top-digit-requires
-    shared-slice-read-half-digit
-    half-digit-requires
-    temperature-requires
-    temperature-requires-2
-    temperature-requires-3
-    temperature-requires-4
-    returns)
+    (tie.spec first-byte-requires top-digit-requires first-byte-requires-2 half-digit-requires temperature-requires temperature-requires-2 temperature-requires-3 temperature-requires-4 returns)

@@ -1,60 +1,53 @@
 -- `recasting::hemisphere_of` meets its contract. Assumes nothing.
-use mathlib.Core.Path.{refl}
+use Prim.Native.Nat.{_<_}
+use native.Mathlib.Omega.{arith}
+use mathlib.Core.Path.{_∙_}
 use borrow.Author.Needs.{needs}
 use borrow.Author.Tests.{not-true, not-false}
+use lib.Dec.{lit≤}
+use lib.ListN.{length}
+use Rattle.layout.specs.declared.Edition.the-variants.{One}
+use Rattle.layout.specs.Page.{startOf}
+use Rattle.layout.proofs.RecordLaws.{ends, begins}
 use Rattle.recasting.proofs.PlaceLaws.{not-crossing, blank-place, crossed}
 use Rattle.recasting.proofs.hemisphere_of.Statement.{statement}
 use Rattle.recasting.proofs.hemisphere_of.Tie as tie
 
-sub-digit : tie.Need-sub-digit
-sub-digit c = search needs
+-- the record has column 12
+there : (s : tie.Start) → startOf 6 < length (s .args .line .now)
+there s = omega (arith, s .pre, begins One 6 (lit≤ tt) (lit≤ tt))
 
-part-digit-start : tie.Need-part-digit-start
-part-digit-start c = search needs
-
-part-digit-end : tie.Need-part-digit-end
-part-digit-end c = search needs
+full-text-requires : tie.Need-full-text-requires
+full-text-requires c κs = omega (arith, ends One 6 (lit≤ tt))
 
 is-crossing-requires : tie.Need-is-crossing-requires
 is-crossing-requires c κs = search needs
 
-shared-slice-read-result : tie.Need-shared-slice-read-result
-shared-slice-read-result c = search needs
+first-byte-requires : tie.Need-first-byte-requires
+first-byte-requires c κs = omega (arith, begins One 6 (lit≤ tt) (lit≤ tt))
 
 returns : tie.Need-returns
 returns c =
     let tests = c .before .before in
-    not-crossing _ _ _ (tests .before .before .before .pre) _ (tests .is-crossing .ensures) (not-true _ (c .before .if1 .taken))
+    c .first-byte .ensures ∙ not-crossing _ _ _ (there (tests .before .before .before)) _ (tests .is-crossing .ensures) (not-true _ (c .before .if1 .taken))
 
 is-blank-requires : tie.Need-is-blank-requires
 is-blank-requires c κs = search needs
 
-shared-slice-read-result-2 : tie.Need-shared-slice-read-result-2
-shared-slice-read-result-2 c = search needs
+first-byte-requires-2 : tie.Need-first-byte-requires-2
+first-byte-requires-2 c κs = omega (arith, begins One 6 (lit≤ tt) (lit≤ tt))
 
 returns-2 : tie.Need-returns-2
 returns-2 c =
     let blank = c .before .before in
     let tests = blank .before .before in
-    blank-place _ _ _ _ (tests .is-crossing .ensures) (not-false _ (blank .before .if1 .left)) _ refl _ (blank .is-blank .ensures) (tests .before .before .before .pre) (c .before .if2 .taken)
+    c .first-byte2 .ensures ∙ blank-place _ _ _ _ (tests .is-crossing .ensures) (not-false _ (blank .before .if1 .left)) _ (tests .before .full-text .ensures .0) _ (blank .is-blank .ensures) (there (tests .before .before .before)) (c .before .if2 .taken)
 
-sub-latitude : tie.Need-sub-latitude
-sub-latitude c = search needs
+full-text-requires-2 : tie.Need-full-text-requires-2
+full-text-requires-2 c κs = omega (arith, ends One 7 (lit≤ tt))
 
-part-latitude-start : tie.Need-part-latitude-start
-part-latitude-start c = search needs
-
-part-latitude-end : tie.Need-part-latitude-end
-part-latitude-end c = search needs
-
-sub-longitude : tie.Need-sub-longitude
-sub-longitude c = search needs
-
-part-longitude-start : tie.Need-part-longitude-start
-part-longitude-start c = search needs
-
-part-longitude-end : tie.Need-part-longitude-end
-part-longitude-end c = search needs
+full-text-requires-3 : tie.Need-full-text-requires-3
+full-text-requires-3 c κs = omega (arith, ends One 8 (lit≤ tt))
 
 number-of-requires : tie.Need-number-of-requires
 number-of-requires c κs = search needs
@@ -71,32 +64,16 @@ lowest-digit-requires c κs = search needs
 returns-3 : tie.Need-returns-3
 returns-3 c =
     let first = c .before .before .before in
-    let branch = first .before .before .before in
+    let longitude = first .before in
+    let latitude = longitude .before in
+    let branch = latitude .before in
     let blank = branch .before in
     let tests = blank .before .before in
-    crossed _ _ _ _ (tests .is-crossing .ensures) (not-false _ (blank .before .if1 .left)) _ refl _ (blank .is-blank .ensures) (branch .if2 .left) _ _ refl refl _ _ _ (first .number-of .ensures) (c .before .before .number-of2 .ensures) (c .before .number-of3 .ensures) _ (c .lowest-digit .ensures)
+    crossed _ _ _ _ (tests .is-crossing .ensures) (not-false _ (blank .before .if1 .left)) _ (tests .before .full-text .ensures .0) _ (blank .is-blank .ensures) (branch .if2 .left) _ _ (latitude .full-text2 .ensures .0) (longitude .full-text3 .ensures .0) _ _ _
+    (first .number-of .ensures) (c .before .before .number-of2 .ensures) (c .before .number-of3 .ensures) _ (c .lowest-digit .ensures)
 
 pub hemisphere-of-spec : {M : Type 1} → statement M
 hemisphere-of-spec =
     tie.close
-    (tie.spec
-    sub-digit
-    part-digit-start
-    part-digit-end
-    is-crossing-requires
-    shared-slice-read-result
-    returns
-    is-blank-requires
-    shared-slice-read-result-2
-    returns-2
-    sub-latitude
-    part-latitude-start
-    part-latitude-end
-    sub-longitude
-    part-longitude-start
-    part-longitude-end
-    number-of-requires
-    number-of-requires-2
-    number-of-requires-3
-    lowest-digit-requires
-    returns-3)
+    (tie.spec full-text-requires is-crossing-requires first-byte-requires returns is-blank-requires first-byte-requires-2 returns-2 full-text-requires-2 full-text-requires-3 number-of-requires
+    number-of-requires-2 number-of-requires-3 lowest-digit-requires returns-3)

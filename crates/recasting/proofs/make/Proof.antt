@@ -1,15 +1,32 @@
 -- `recasting::make` meets its contract. Assumes nothing.
 use borrow.Author.Needs.{needs}
-use mathlib.Core.Path.{_≡_, sym, _∙_}
+use mathlib.Core.List.{List}
+use mathlib.Core.Path.{_≡_, ap, _∙_}
+use Prim.Native.Nat.{ℕ}
 use native.Mathlib.Omega.{arith}
-use borrow.Author.Needs.{needs}
-use lib.ListN.{length, set, length-set}
+use lib.Dec.{lit≤}
+use lib.ListN.{length, set}
 use Rattle.layout.specs.Editions.{lengthOf}
-use Rattle.layout.proofs.RecordLaws.{shortest}
+use Rattle.layout.specs.Page.{startOf}
+use Rattle.layout.proofs.Beyond.{last-above}
+use Rattle.layout.proofs.RecordLaws.{begins}
 use Rattle.recasting.proofs.MakeLaws.{acceptable, prepared, after-long, as-recast}
 use Rattle.recasting.proofs.RecastLaws.{accepted-long}
 use Rattle.recasting.proofs.make.Statement.{statement}
 use Rattle.recasting.proofs.make.Tie as tie
+
+-- the row after what is lost was blanked: it was filled before, and the call began before that
+abbrev filled : tie.After-blank-lost → tie.After-fill
+filled c = c .before .before .before .before
+
+abbrev begun : tie.After-fill → tie.Start
+begun c = c .before .before .before .before
+
+-- it has the target's length
+long : (c : tie.After-blank-lost) → length (c .blank-lost .last .1 .1 .0) ≡ lengthOf (begun (filled c) .args .to)
+long c =
+    let start = begun (filled c) in
+    after-long (start .args .from) (start .args .to) (start .args .line .now) (start .pre .0) _ (filled c .fill .ensures) _ (c .blank-lost .kept .1 .1 .0) (c .blank-lost .ensures)
 
 fill-requires : tie.Need-fill-requires
 fill-requires c κs =
@@ -19,65 +36,42 @@ fill-requires c κs =
 blank-lost-requires : tie.Need-blank-lost-requires
 blank-lost-requires c κs =
     let fill = c .before .before .before in
-    let start = fill .before .before .before .before in
+    let start = begun fill in
     prepared (start .args .from) (start .args .to) (start .args .line .now) (start .pre .0) _ (fill .fill .ensures)
 
--- the row has the target's length
-long : (c : tie.After-slice-known3) → length (c .before .before .blank-lost .last .1 .1 .0) ≡ lengthOf (c .before .before .before .before .before .before .before .before .before .before .args .to)
-long c =
-    let blank = c .before .before in
-    let fill = blank .before .before .before .before in
-    let start = fill .before .before .before .before in
-    after-long (start .args .from) (start .args .to) (start .args .line .now) (start .pre .0) _ (fill .fill .ensures) _ (blank .blank-lost .kept .1 .1 .0) (blank .blank-lost .ensures)
-
 hemisphere-of-requires : tie.Need-hemisphere-of-requires
-hemisphere-of-requires c κs =
-    let fill = c .before .before .before .before .before .before in
-    accepted-long _ _ (fill .before .before .before .before .pre .0)
+hemisphere-of-requires c κs = accepted-long _ _ (begun (filled (c .before .before .before)) .pre .0)
 
-slice-write-row : tie.Need-slice-write-row
-slice-write-row c =
-    let fill = c .before .before .before .before .before .before .before in
-    omega (arith, long (c .before), shortest (fill .before .before .before .before .args .to))
+put-requires : tie.Need-put-requires
+put-requires c κs =
+    let blank = c .before .before .before .before in
+    let to = begun (filled blank) .args .to in
+    omega (arith, long blank, begins to 6 (lit≤ tt) (omega (arith, last-above to)))
 
 digit-of-requires : tie.Need-digit-of-requires
 digit-of-requires c κs = search needs
 
-slice-write-row-2 : tie.Need-slice-write-row-2
-slice-write-row-2 c =
-    let digit = c .before in
-    let blank = digit .before .before .before in
-    let fill = blank .before .before .before .before in
-    let start = fill .before .before .before .before in
-    omega (arith, long (digit .before), length-set (blank .blank-lost .last .1 .1 .0) 11 (digit .hemisphere-of .result), shortest (start .args .to))
+put-requires-2 : tie.Need-put-requires-2
+put-requires-2 c κs =
+    let twelve = c .before .before .before .before in
+    let blank = twelve .before .before .before .before .before in
+    let to = begun (filled blank) .args .to in
+    omega (arith, twelve .put .kept .0, long blank, begins to 65 (lit≤ tt) (omega (arith, last-above to)))
 
 same-length : tie.Need-same-length
-same-length c =
-    let digit = c .before in
-    let blank = digit .before .before .before in
-    let fill = blank .before .before .before .before in
-    let start = fill .before .before .before .before in
-    let row = blank .blank-lost .last .1 .1 .0 in
-    let twelve = digit .hemisphere-of .result in
-    length-set (set row 11 twelve) 110 (c .digit-of .result) ∙ length-set row 11 twelve ∙ long (digit .before) ∙ sym (start .pre .1)
+same-length c = search needs
 
 returns : tie.Need-returns
 returns c =
-    let digit = c .before in
-    let blank = digit .before .before .before in
-    let fill = blank .before .before .before .before in
-    let start = fill .before .before .before .before in
-    as-recast (start .args .from) (start .args .to) (start .args .line .now) (start .pre .0) _ (fill .fill .ensures) _ (blank .blank-lost .kept .1 .1 .0) (blank .blank-lost .ensures) _ _ (digit .hemisphere-of .ensures) (c .digit-of .ensures)
+    let version = c .before .before in
+    let digit = version .before in
+    let twelve = digit .before .before .before .before in
+    let hemisphere = twelve .before in
+    let blank = hemisphere .before .before .before .before in
+    let start = begun (filled blank) in
+    version .put2 .ensures ∙ ap (λ (row : List ℕ). set row (startOf 65) (digit .digit-of .result)) (twelve .put .ensures) ∙
+    as-recast (start .args .from) (start .args .to) (start .args .line .now) (start .pre .0) _ (filled blank .fill .ensures) _ (blank .blank-lost .kept .1 .1 .0) (blank .blank-lost .ensures) _ _
+    (hemisphere .hemisphere-of .ensures) (digit .digit-of .ensures)
 
 pub make-spec : {M : Type 1} → statement M
-make-spec =
-    tie.close
-    (tie.spec
-    fill-requires
-    blank-lost-requires
-    hemisphere-of-requires
-    slice-write-row
-    digit-of-requires
-    slice-write-row-2
-    same-length
-    returns)
+make-spec = tie.close (tie.spec fill-requires blank-lost-requires hemisphere-of-requires put-requires digit-of-requires put-requires-2 same-length returns)

@@ -2,7 +2,7 @@
 use borrow.Author.Needs.{needs}
 use native.Mathlib.Omega.{arith}
 use Rattle.layout.proofs.RecordLaws.{shortest}
-use Rattle.blanking.specs.Columns.{codesLost, countryLost, versionLost, flagsLost}
+use Rattle.blanking.specs.LostBytes.{codesLost, countryLost, versionLost, flagsLost}
 use Rattle.blanking.proofs.NameLaws.{as-tested}
 use Rattle.blanking.proofs.LossLaws.{all-named}
 use Rattle.blanking.proofs.names.losses_of.Statement.{statement}

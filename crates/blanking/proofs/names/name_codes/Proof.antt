@@ -1,26 +1,29 @@
 -- `blanking::names::name_codes` meets its contract. Assumes nothing.
-use borrow.Author.Needs.{needs}
 use mathlib.Core.Path.{refl}
-use Rattle.blanking.proofs.NameLaws.{joined, source-word, platform-word, none-named, some-named}
-use Rattle.blanking.specs.Columns.{codesLost}
+use native.Mathlib.Omega.{arith}
+use lib.Dec.{lit≤}
+use Rattle.layout.specs.declared.Edition.the-variants.{One}
+use Rattle.layout.proofs.RecordLaws.{begins}
+use Rattle.blanking.specs.LostBytes.{codesLost}
+use Rattle.blanking.proofs.NameLaws.{joined, one-word, none-named, some-named}
 use Rattle.blanking.proofs.names.name_codes.Statement.{statement}
 use Rattle.blanking.proofs.names.name_codes.Tie as tie
 
 returns : tie.Need-returns
 unfolding codesLost
-returns c = none-named codesLost (λ j b. refl) (c .before .before .args .changed) (c .if1 .taken) (c .before .before .args .line .now) 1 64
+returns c = none-named codesLost (λ at b. refl) (c .before .before .args .changed) (c .if1 .taken) (c .before .before .args .line .now) 1 64
 
-name-column-requires : tie.Need-name-column-requires
-name-column-requires c κs = search needs
+name-one-requires : tie.Need-name-one-requires
+name-one-requires c κs = (omega (arith, begins One 40 (lit≤ tt) (lit≤ tt)), lit≤ tt)
 
-name-column-requires-2 : tie.Need-name-column-requires-2
-name-column-requires-2 c κs = search needs
+name-one-requires-2 : tie.Need-name-one-requires-2
+name-one-requires-2 c κs = (omega (arith, begins One 40 (lit≤ tt) (lit≤ tt)), lit≤ tt)
 
-name-column-requires-3 : tie.Need-name-column-requires-3
-name-column-requires-3 c κs = search needs
+name-one-requires-3 : tie.Need-name-one-requires-3
+name-one-requires-3 c κs = (omega (arith, begins One 41 (lit≤ tt) (lit≤ tt)), lit≤ tt)
 
-name-column-requires-4 : tie.Need-name-column-requires-4
-name-column-requires-4 c κs = search needs
+name-one-requires-4 : tie.Need-name-one-requires-4
+name-one-requires-4 c κs = (omega (arith, begins One 41 (lit≤ tt) (lit≤ tt)), lit≤ tt)
 
 returns-2 : tie.Need-returns-2
 unfolding codesLost
@@ -31,17 +34,9 @@ returns-2 c =
     some-named codesLost (args .changed) (start .if1 .left) line 1 64 _
     (joined _ _ 1 64 _ _
     (joined _ _ 1 64 _ _
-    (joined _ _ 1 64 _ _ (source-word line 49 49 _ (c .before .before .before .name-column .ensures)) (source-word line 52 52 _ (c .before .before .name-column2 .ensures)))
-    (platform-word line 52 52 _ (c .before .name-column3 .ensures)))
-    (platform-word line 55 57 _ (c .name-column4 .ensures)))
+    (joined _ _ 1 64 _ _ (one-word line 49 49 1 39 64 (omega arith) _ (c .before .before .before .name-one .ensures)) (one-word line 52 52 1 39 64 (omega arith) _ (c .before .before .name-one2 .ensures)))
+    (one-word line 52 52 1 40 64 (omega arith) _ (c .before .name-one3 .ensures)))
+    (one-word line 55 57 1 40 64 (omega arith) _ (c .name-one4 .ensures)))
 
 pub name-codes-spec : {M : Type 1} → statement M
-name-codes-spec =
-    tie.close
-    (tie.spec
-    returns
-    name-column-requires
-    name-column-requires-2
-    name-column-requires-3
-    name-column-requires-4
-    returns-2)
+name-codes-spec = tie.close (tie.spec returns name-one-requires name-one-requires-2 name-one-requires-3 name-one-requires-4 returns-2)

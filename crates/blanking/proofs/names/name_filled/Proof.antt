@@ -1,18 +1,21 @@
 -- `blanking::names::name_filled` meets its contract. Assumes nothing.
 use borrow.Author.Needs.{needs}
-use Rattle.blanking.specs.Columns.{laterLost}
-use Rattle.blanking.proofs.NameLaws.{joined, starts-word, later-word}
+use native.Mathlib.Omega.{arith}
+use lib.Dec.{lit≤}
+use Rattle.layout.proofs.Columns.{start-below}
+use Rattle.blanking.specs.LostBytes.{laterLost}
+use Rattle.blanking.proofs.NameLaws.{joined, eight-word}
 use Rattle.blanking.proofs.names.name_filled.Statement.{statement}
 use Rattle.blanking.proofs.names.name_filled.Tie as tie
 
-name-starts-requires : tie.Need-name-starts-requires
-name-starts-requires c κs = search needs
+name-eight-requires : tie.Need-name-eight-requires
+name-eight-requires c κs = ((lit≤ tt, lit≤ tt), (omega (arith, start-below 94 (lit≤ tt)), lit≤ tt))
 
 moved-requires : tie.Need-moved-requires
 moved-requires c κs = search needs
 
-name-run-requires : tie.Need-name-run-requires
-name-run-requires c κs = search needs
+name-eight-requires-2 : tie.Need-name-eight-requires-2
+name-eight-requires-2 c κs = ((lit≤ tt, lit≤ tt), (omega (arith, start-below 102 (lit≤ tt)), lit≤ tt))
 
 moved-requires-2 : tie.Need-moved-requires-2
 moved-requires-2 c κs = search needs
@@ -21,9 +24,7 @@ returns : tie.Need-returns
 unfolding laterLost
 returns c =
     let line = c .before .before .before .before .before .args .line .now in
-    joined _ _ 65 37 _ _ (starts-word line 33 126 _ _ (c .before .before .before .name-starts .ensures) (c .before .before .moved .ensures)) (later-word line 33 126 _ _ (c .before .name-run .ensures) (c .moved2 .ensures))
+    joined _ _ 65 37 _ _ (eight-word line 33 126 21 (omega arith) _ _ (c .before .before .before .name-eight .ensures) (c .before .before .moved .ensures)) (eight-word line 33 126 29 (omega arith) _ _ (c .before .name-eight2 .ensures) (c .moved2 .ensures))
 
 pub name-filled-spec : {M : Type 1} → statement M
-name-filled-spec =
-    tie.close
-    (tie.spec name-starts-requires moved-requires name-run-requires moved-requires-2 returns)
+name-filled-spec = tie.close (tie.spec name-eight-requires moved-requires name-eight-requires-2 moved-requires-2 returns)

@@ -1,6 +1,5 @@
 -- `layout::page::first_illegal` meets its contract: the loop stands at element e, and what is left to look at says the same as the whole. Assumes nothing.
 use Prim.Native.Nat.{ℕ, _+_, _-_, _<_, _≤_}
-use Rattle.layout.proofs.Columns.{width-at}
 use Rattle.layout.proofs.Elements.{last-below, legal-of, next, part, within}
 use Rattle.layout.proofs.Parts.{own-width}
 use Rattle.text.proofs.First.{begin, end, off, on}
@@ -16,23 +15,23 @@ use Rattle.layout.proofs.page.first_illegal.Statement.{statement}
 use Rattle.layout.proofs.page.first_illegal.Tie as tie
 
 abbrev Inv-loop : tie.InvT-loop
-Inv-loop edition line widths last at₀ e₀ at e = (1 ≤ e) × ((at ≡ startOf e) × (firstOf last (legal edition line) ≡ firstFrom (legal edition line) e (last + 1 - e)))
+Inv-loop edition line last at₀ e₀ at e = (1 ≤ e) × ((at ≡ startOf e) × (firstOf last (legal edition line) ≡ firstFrom (legal edition line) e (last + 1 - e)))
 
 abbrev μ-loop : tie.MeasureT-loop
-μ-loop edition line widths last at₀ e₀ at e = last + 1 - e
+μ-loop edition line last at₀ e₀ at e = last + 1 - e
 
 -- where the call began
 abbrev call : tie.At-loop Inv-loop μ-loop → tie.Start Inv-loop μ-loop
-call c = let widths = c .before .before in widths .before .before
+call c = c .before .before .before
 
 below : (c : tie.In-loop Inv-loop μ-loop) → c .before .loop .e < 102
 below c = omega (arith, c .before .before .last .ensures, last-below (call (c .before) .args .edition))
 
--- the element is as wide as the row says, and its columns end within the record
-wide : (c : tie.After-digit Inv-loop μ-loop) → c .digit .result ≡ widthOf (c .before .before .loop .e)
-wide c = let last = c .before .before .before in c .digit .ensures ∙ width-at _ (last .before .widths .ensures) _
+-- the element's columns end within the record
+wide : (c : tie.After-width-of Inv-loop μ-loop) → c .width-of .result ≡ widthOf (c .before .before .loop .e)
+wide c = c .width-of .ensures
 
-ends : (c : tie.After-digit Inv-loop μ-loop) → c .before .before .loop .at + c .digit .result ≤ length (call (c .before .before) .args .line .now)
+ends : (c : tie.After-width-of Inv-loop μ-loop) → c .before .before .loop .at + c .width-of .result ≤ length (call (c .before .before) .args .line .now)
 ends c =
     let loop = c .before .before in
     within _ _ _ (loop .loop .inv .1 .0) (wide c) (call loop .args .edition) (call loop .args .line .now) _ (loop .before .last .ensures) (call loop .pre) (c .before .loop-test .taken)
@@ -52,9 +51,6 @@ whole : (c : tie.At-loop Inv-loop μ-loop) →
     firstOf (lastOf (call c .args .edition)) (legal (call c .args .edition) (call c .args .line .now))
 whole c = sym (c .loop .inv .1 .1) ∙ ap (λ (n : ℕ). firstOf n (legal (call c .args .edition) (call c .args .line .now))) (c .before .last .ensures)
 
-widths-requires : tie.Need-widths-requires Inv-loop μ-loop
-widths-requires c κs = search needs
-
 last-requires : tie.Need-last-requires Inv-loop μ-loop
 last-requires c κs = search needs
 
@@ -62,11 +58,8 @@ loop-holds : tie.Need-loop-holds Inv-loop μ-loop
 unfolding startOf columns
 loop-holds c = (search needs, (refl, begin (legal _ _) _))
 
-array-read-digit : tie.Need-array-read-digit Inv-loop μ-loop
-array-read-digit c = below c
-
-digit-requires : tie.Need-digit-requires Inv-loop μ-loop
-digit-requires c κs = search needs
+width-of-requires : tie.Need-width-of-requires Inv-loop μ-loop
+width-of-requires c κs = search needs
 
 add-end : tie.Need-add-end Inv-loop μ-loop
 add-end c = omega (arith, ends c)
@@ -113,11 +106,9 @@ first-illegal-spec =
     (tie.spec
     Inv-loop
     μ-loop
-    widths-requires
     last-requires
     loop-holds
-    array-read-digit
-    digit-requires
+    width-of-requires
     add-end
     sub-is-legal
     part-is-legal-start

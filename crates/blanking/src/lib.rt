@@ -146,7 +146,7 @@ fn blank_shared(from: Edition, to: Edition, row: &mut [u8])
     ensures { λ _. ⌜ now (row .exit) ≡ blanked (sharedLost from to) (now (row .entry)) ⌝ }
 {
     blank_codes(row, is_change(from, to));
-    blank_country(row, hemispheres::is_crossing(from, to));
+    blank_country(row, places::column_12::is_crossing(from, to));
     blank_version(row, is_leaving(from, to));
     blank_flags(row, is_leaving(from, to));
 }
@@ -157,7 +157,7 @@ pub fn blank_lost(from: Edition, to: Edition, row: &mut [u8])
     ensures { λ _. ⌜ ((e : ℕ) → 1 ≤ e → e ≤ lastOf to → textOf e (now (row .exit)) ≡ blankedText from to (now (row .entry)) e) ⌝ }
 {
     blank_shared(from, to, row);
-    if hemispheres::is_first(to) {
+    if places::column_12::is_first(to) {
         return;
     }
     blank_later(row, is_leaving(from, to));

@@ -14,7 +14,7 @@ ghost use Rattle.text.specs.Bytes.{between};
 ghost use Rattle.losses.specs.Losses.{word, lossesOf};
 ghost use Rattle.layout.specs.Editions.{lengthOf, lastOf};
 ghost use Rattle.layout.specs.Page.{startOf, textOf, firstByte, legalText};
-ghost use Rattle.hemispheres.specs.Digits.{isFirst};
+ghost use Rattle.places.specs.Digits.{isFirst};
 ghost use Rattle.meanings.specs.Kept.{lostAt};
 ghost use Rattle.blanking.specs.LostBytes.{leaves, codesLost, countryLost, versionLost, flagsLost, laterLost, named};
 
@@ -138,10 +138,10 @@ fn name_last(from: Edition, to: Edition, line: &[u8]) -> u64
     requires { ⌜ length (now line) ≡ lengthOf from ⌝ }
     ensures { λ r. ⌜ r ≡ word (named (laterLost (isFirst to) (leaves from to)) (now (line .entry))) 65 37 ⌝ }
 {
-    if hemispheres::is_first(from) {
+    if places::column_12::is_first(from) {
         return 0;
     }
-    if hemispheres::is_first(to) {
+    if places::column_12::is_first(to) {
         return name_filled(line);
     }
     name_later(line, is_leaving(from, to))
@@ -154,7 +154,7 @@ pub fn losses_of(from: Edition, to: Edition, line: &[u8]) -> Losses
 {
     let back = is_leaving(from, to);
     let codes = name_codes(line, is_change(from, to));
-    let country = name_country(line, hemispheres::is_crossing(from, to));
+    let country = name_country(line, places::column_12::is_crossing(from, to));
     let low = codes | country | name_version(line, back);
     let high = name_flags(line, back) | name_last(from, to, line);
     Losses {

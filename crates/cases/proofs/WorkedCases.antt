@@ -12,19 +12,20 @@ use Rattle.losses.specs.Losses.{elements, word, lossesOf, hasLoss}
 use Rattle.calendar.specs.Calendar.{leaps, lastDay}
 use Rattle.layout.specs.Page.{element, page, columns, startOf, textOf, legal}
 use Rattle.layout.specs.Records.{rowFrom, recordFrom}
-use Rattle.ties.specs.Ties.{placeTie, octantFits, octantTie, signTie, lastDigit, digitTie, windTie, latestDay, dayTie, tie, firstBroken}
+use Rattle.places.specs.Places.{south, west, octantFits, placeAt, latitudeFigure, longitudeFigure}
+use Rattle.ties.specs.Ties.{placeTie, octantTie, signTie, lastDigit, digitTie, windTie, latestDay, dayTie, tie, firstBroken}
 use Rattle.checking.specs.Check.{column, checkedIn, checked}
 use Rattle.reading.specs.declared.Kind.{Kind}
 use Rattle.reading.specs.declared.Kind.the-variants.{Measured, Computed}
 use Rattle.reading.specs.declared.Reading.{Reading}
 use Rattle.reading.specs.declared.Reading.the-variants.{Code, Amount}
-use Rattle.reading.specs.Readings.{plain, temperature, departure, south, west, placeOf, itemOf}
+use Rattle.reading.specs.Readings.{plain, temperature, departure, placeOf, itemOf}
 use Rattle.reading.specs.Answers.{readAfter}
 use Rattle.spelling.specs.Same.{partsOf, same}
 use Rattle.spelling.specs.Spelled.{amountNumeral, placeNumeral, numeralFor, recordOf}
 use Rattle.writing.specs.Written as Written
 use Rattle.writing.proofs.Demand2TiesBroken.{missing, said, of-edition}
-use Rattle.hemispheres.specs.Digits.{suits, lowestDigit}
+use Rattle.places.specs.Digits.{suits, lowestDigit}
 use Rattle.meanings.specs.Meaning.{platformSense, senseOf}
 use Rattle.meanings.specs.Kept.{keeps, lostText}
 use Rattle.recasting.specs.Recast.{
@@ -171,5 +172,5 @@ abbrev pub answers : List Result
 answers = map (λ w. w .answered) worked
 
 pub worked-cases : map answer cases ≡ answers
-unfolding answer lent at edition1 edition3 edition4 bytesOf spelled checked checkedIn column legal allows every valueFrom run textOf startOf columns element page tie firstBroken firstFrom octantTie octantFits placeTie signTie digitTie lastDigit windTie dayTie latestDay leaps lastDay readAfter itemOf plain temperature south west recastAfter recastTo recastIn lossesOf word elements hasLoss keeps lostText senseOf platformSense hemisphere lowestDigit suits leftAfter leftTo filledBy recastRecord recordFrom rowFrom recastText widened Written.writtenAs Written.writtenIn Written.afterAs Written.filledBy Written.writes recordOf numeralFor amountNumeral placeNumeral same partsOf placeOf departure missing said
+unfolding answer lent at edition1 edition3 edition4 bytesOf spelled checked checkedIn column legal allows every valueFrom run textOf startOf columns element page tie firstBroken firstFrom octantTie octantFits placeTie signTie digitTie lastDigit windTie dayTie latestDay leaps lastDay readAfter itemOf plain temperature south west placeAt latitudeFigure longitudeFigure recastAfter recastTo recastIn lossesOf word elements hasLoss keeps lostText senseOf platformSense hemisphere lowestDigit suits leftAfter leftTo filledBy recastRecord recordFrom rowFrom recastText widened Written.writtenAs Written.writtenIn Written.afterAs Written.filledBy Written.writes recordOf numeralFor amountNumeral placeNumeral same partsOf placeOf departure missing said
 worked-cases = refl

@@ -30,7 +30,8 @@ use Rattle.layout.proofs.Elements.{last-below, in-each}
 use Rattle.layout.proofs.Parts.{text-byte, one-byte}
 use Rattle.layout.proofs.RecordLaws.{ends, begins, text-long}
 use Rattle.layout.proofs.Beyond.{text-none, last-above}
-use Rattle.ties.specs.Ties.{there, placeTie, octantFits, octantTie, negative, signTie, lastDigit, tenthsFit, measuredFit, digitTie, windTie, dayTie, ties, tie}
+use Rattle.places.specs.Places.{octantFits}
+use Rattle.ties.specs.Ties.{there, placeTie, octantTie, negative, signTie, lastDigit, tenthsFit, measuredFit, digitTie, windTie, dayTie, ties, tie}
 use Rattle.ties.proofs.Days.{in-every-year}
 use Rattle.columns.specs.Tables.{allowed, joined, cellOf, cellsFrom, cells, cellAt, bonds, bondsFrom, bondAt, inside, after, fits, Columns}
 use Rattle.columns.proofs.Bonds.{after-blank, same-blank, first-says}

@@ -22,8 +22,10 @@ use Rattle.reading.specs.declared.Kind.{Kind}
 use Rattle.reading.specs.declared.Kind.the-variants.{Measured}
 use Rattle.reading.specs.declared.Reading.{Reading}
 use Rattle.reading.specs.declared.Reading.the-variants.{Missing, Code, Text, Amount, At}
+use Rattle.places.specs.declared.Place.{Place}
+use Rattle.places.specs.Places.{placeAt}
 use Rattle.signs.specs.Signed.{signed}
-use Rattle.reading.specs.Readings.{alwaysText, codeOf, plain, below, kindOf, temperature, departure, south, west, east, placeOf, lead, itemOf, readingOf}
+use Rattle.reading.specs.Readings.{alwaysText, codeOf, plain, below, kindOf, temperature, departure, placeOf, lead, itemOf, readingOf}
 use Rattle.reading.specs.declared.Found.the-variants.{Reads, Unread}
 use Rattle.reading.specs.Answers.{readAfter, readOf}
 
@@ -79,32 +81,9 @@ module _ (t : List ℕ) (x : Bool) (p : x ≡ blank t) where
   unfolding departure
   no-departure h = rw (← p, h)
 
-  pub is-departure : x ≡ false → (n : ℕ) (z : ℤ) → n ≡ number t → z ≡ signed (leb 100 n) (n % 100) → Amount z Measured ≡ departure t
+  pub is-departure : x ≡ false → (n m : ℕ) (z : ℤ) → n ≡ number t → m ≡ n % 100 → z ≡ signed (leb 100 n) m → Amount z Measured ≡ departure t
   unfolding departure
-  is-departure h n z f g = rw (← p, h, ← f, ← g)
-
--- east longitude
-module _ (w : Bool) (l m : ℕ) where
-  pub east-east : not w ≡ true → m ≡ l → m ≡ east w l
-  east-east h f = by w h
-    where
-      by : (w : Bool) → not w ≡ true → m ≡ east w l
-      by false h = f
-      by true h = absurd (true≢false (sym h))
-
-  pub east-far : not w ≡ false → 3600 ≤ l → 0 ≡ east w l
-  east-far h k = by w h
-    where
-      by : (w : Bool) → not w ≡ false → 0 ≡ east w l
-      by true h = let z : 3600 - l ≡ 0 = omega arith in rw z
-      by false h = absurd (true≢false h)
-
-  pub east-west : not w ≡ false → m ≡ (3600 - l) % 3600 → m ≡ east w l
-  east-west h f = by w h
-    where
-      by : (w : Bool) → not w ≡ false → m ≡ east w l
-      by true h = f
-      by false h = absurd (true≢false h)
+  is-departure h n m z f g i = rw (← p, h, ← f, ← g, ← i)
 
 -- column 12, latitude and longitude
 module _ (ed : Edition) (q la lo : List ℕ) (x : Bool) (p : x ≡ blank q) where
@@ -122,10 +101,9 @@ module _ (ed : Edition) (q la lo : List ℕ) (x : Bool) (p : x ≡ blank q) wher
       unfolding placeOf
       no-longitude l = rw (← p, h, ← r, k, ← s, l)
 
-      pub is-place : z ≡ false → (d m n : ℕ) (u w : Bool) (a : ℤ) (o d′ : ℕ) → d ≡ number q → u ≡ south ed d → w ≡ west ed d → m ≡ number la → a ≡ signed u m → n ≡ number lo → o ≡ east w n → d′ ≡ d →
-          At (record { latitude = a; longitude = o; digit = d′ }) ≡ placeOf ed q la lo
+      pub is-place : z ≡ false → (d m n : ℕ) (at : Place) → d ≡ number q → m ≡ number la → n ≡ number lo → at ≡ placeAt ed d m n → At at ≡ placeOf ed q la lo
       unfolding placeOf
-      is-place l d m n u w a o d′ e f g i j t v b = rw (← p, h, ← r, k, ← s, l, ← e, ← i, ← t, ← f, ← g, ← j, ← v, b)
+      is-place l d m n at e f g i = rw (← p, h, ← r, k, ← s, l, ← e, ← f, ← g, i)
 
 -- a number that is one of four is no more than the greatest of them, and no less than the least
 pub among-below : (k a b c d n : ℕ) → a ≤ k → b ≤ k → c ≤ k → d ≤ k → among a b c d n ≡ true → n ≤ k

@@ -6,8 +6,8 @@ use lib.Dec.{eqb, leb}
 use Rattle.text.specs.Bytes.{blank, digits, number, word}
 use Rattle.text.specs.Texts.{among}
 use Rattle.layout.specs.declared.Edition.{Edition}
-use Rattle.layout.specs.declared.Edition.the-variants.{One, Three, Four}
 use Rattle.layout.specs.Page.{textOf}
+use Rattle.places.specs.Places.{placeAt}
 use Rattle.signs.specs.Signed.{signed}
 use Rattle.reading.specs.declared.Kind.{Kind}
 use Rattle.reading.specs.declared.Kind.the-variants.{Measured, Computed, IcedMeasured, IcedComputed}
@@ -40,30 +40,11 @@ temperature sign value = cond (blank sign || blank value) Missing (Amount (signe
 unfoldable pub departure : List ℕ → Reading
 departure t = cond (blank t) Missing (Amount (signed (leb 100 (number t)) (number t % 100)) Measured)
 
--- the hemispheres that a digit gives: octants in edition 1, quadrants in the others
-unfoldable pub south : Edition → ℕ → Bool
-south One digit = leb 5 digit
-south Three digit = among 3 5 3 5 digit
-south Four digit = among 3 5 3 5 digit
-
-unfoldable pub west : Edition → ℕ → Bool
-west One digit = among 0 1 5 6 digit
-west Three digit = among 5 7 5 7 digit
-west Four digit = among 5 7 5 7 digit
-
--- east longitude, 0..3599; 180.0 W is 180.0 E
-abbrev pub east : Bool → ℕ → ℕ
-east isWest longitude = cond isWest ((3600 - longitude) % 3600) longitude
-
 -- column 12, latitude, longitude
 unfoldable pub placeOf : Edition → List ℕ → List ℕ → List ℕ → Reading
 placeOf ed digit latitude longitude =
     cond (blank digit || blank latitude || blank longitude) Missing
-    (At (record {
-      latitude = signed (south ed (number digit)) (number latitude);
-      longitude = east (west ed (number digit)) (number longitude);
-      digit = number digit;
-    }))
+    (At (placeAt ed (number digit) (number latitude) (number longitude)))
 
 -- the lowest element of those that share a reading: 6 to 8 the place, a sign and its temperature the amount
 abbrev pub lead : ℕ → ℕ

@@ -6,12 +6,13 @@ use checking::Answer;
 use layout::Edition;
 use layout::Refusal;
 use layout::page;
+use places::Place;
 ghost use mathlib.Core.Path.{_≡_};
 ghost use mathlib.Core.Bool.{true};
 ghost use Prim.Native.Nat.{_≤_, _+_};
 ghost use lib.ListN.{length};
 ghost use Rattle.text.specs.Texts.{among};
-ghost use Rattle.reading.specs.Readings.{alwaysText, codeOf, plain, below, kindOf, temperature, departure, south, west, east, placeOf, lead, itemOf, readingOf};
+ghost use Rattle.reading.specs.Readings.{alwaysText, codeOf, plain, below, kindOf, temperature, departure, placeOf, lead, itemOf, readingOf};
 ghost use Rattle.reading.specs.Answers.{readAfter, readOf};
 
 // How an amount came about.
@@ -20,14 +21,6 @@ pub enum Kind {
     Computed,
     IcedMeasured,
     IcedComputed,
-}
-
-// Where the ship was: tenths of latitude, negative in the south, tenths of east longitude from 0 to
-// 3599, and the digit of column 12 as it stands.
-pub struct Place {
-    pub latitude: i64,
-    pub longitude: u64,
-    pub digit: u64,
 }
 
 pub enum Reading {
@@ -123,7 +116,7 @@ fn temperature_of(sign: &[u8], value: &[u8]) -> Reading
     let s = text::number_of(sign);
     let is_below = text::is_among(s, 1, 2, 6, 7);
     Reading::Amount(
-        signs::signed_of(is_below, text::number_of(value)),
+        signs::signed_of(is_below, wide(text::number_of(value))),
         kind_of(s),
     )
 }
@@ -137,42 +130,7 @@ fn departure_of(text: &[u8]) -> Reading
         return Reading::Missing;
     }
     let n = text::number_of(text);
-    Reading::Amount(signs::signed_of(100 <= n, n % 100), Kind::Measured)
-}
-
-// Does the digit give the southern hemisphere?
-pub fn is_south(edition: Edition, digit: u32) -> bool
-    ensures { λ r. ⌜ r ≡ south edition digit ⌝ }
-{
-    match edition {
-        Edition::One => 5 <= digit,
-        Edition::Three => text::is_among(digit, 3, 5, 3, 5),
-        Edition::Four => text::is_among(digit, 3, 5, 3, 5),
-    }
-}
-
-// Does it give the western?
-pub fn is_west(edition: Edition, digit: u32) -> bool
-    ensures { λ r. ⌜ r ≡ west edition digit ⌝ }
-{
-    match edition {
-        Edition::One => text::is_among(digit, 0, 1, 5, 6),
-        Edition::Three => text::is_among(digit, 5, 7, 5, 7),
-        Edition::Four => text::is_among(digit, 5, 7, 5, 7),
-    }
-}
-
-// East longitude from the longitude of a hemisphere, and back again.
-pub fn east_of(is_west: bool, longitude: u64) -> u64
-    ensures { λ r. ⌜ r ≡ east «is_west» longitude ⌝ }
-{
-    if !is_west {
-        return longitude;
-    }
-    if 3600 <= longitude {
-        return 0;
-    }
-    (3600 - longitude) % 3600
+    Reading::Amount(signs::signed_of(100 <= n, wide(n % 100)), Kind::Measured)
 }
 
 // The reading of column 12, latitude and longitude.
@@ -189,14 +147,13 @@ fn place_of(edition: Edition, digit: &[u8], latitude: &[u8], longitude: &[u8]) -
     if text::is_blank(longitude) {
         return Reading::Missing;
     }
-    let d = text::number_of(digit);
-    let s = is_south(edition, d);
-    let w = is_west(edition, d);
-    Reading::At(Place {
-        latitude: signs::signed_of(s, text::number_of(latitude)),
-        longitude: east_of(w, wide(text::number_of(longitude))),
-        digit: wide(d),
-    })
+    let place = places::place_at(
+        edition,
+        text::number_of(digit),
+        text::number_of(latitude),
+        text::number_of(longitude),
+    );
+    Reading::At(place)
 }
 
 // The lowest element of those that share a reading with element e.

@@ -18,12 +18,12 @@ use checking::Answer;
 use layout::Edition;
 use layout::page;
 use libc::STDIN_FILENO;
+use places::Place;
 use printing::Held;
 use printing::Tally;
 use printing::say;
 use printing::say_number;
 use reading::Kind;
-use reading::Place;
 use reading::Reading;
 use writing::Outcome;
 

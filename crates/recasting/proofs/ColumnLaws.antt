@@ -13,8 +13,8 @@ use Rattle.layout.specs.Page.{page, element, textOf, textsOf}
 use Rattle.layout.proofs.Beyond.{last-above}
 use Rattle.layout.proofs.RecordLaws.{begins}
 use Rattle.checking.specs.Acceptable.{Acceptable}
-use Rattle.hemispheres.specs.Digits.{crosses}
-use Rattle.hemispheres.proofs.Request9Digits.{standing, digit-there, HasDigit, every-place}
+use Rattle.places.specs.Digits.{crosses}
+use Rattle.recasting.proofs.Request9Places.{standing, digit-there, HasDigit, every-place}
 use Rattle.recasting.specs.Recast.{hemisphere, recastText}
 use Rattle.recasting.proofs.PlaceLaws.{six, chosen, by-tests}
 use Rattle.recasting.proofs.ResultLaws.{result, result-text}

@@ -21,7 +21,7 @@ use Rattle.checking.specs.Check.{checked}
 use Rattle.checking.specs.Acceptable.{Acceptable}
 use Rattle.checking.proofs.Demand2Acceptance.{accepted-exactly}
 use Rattle.checking.proofs.LegalLaws.{legal-record}
-use Rattle.hemispheres.proofs.Request9Digits.{standing}
+use Rattle.recasting.proofs.Request9Places.{standing}
 use Rattle.meanings.specs.Meaning.{senseOf, sameSense}
 use Rattle.meanings.specs.Kept.{keeps, lostText, lostAt}
 use Rattle.recasting.specs.Recast.{digitOf, recastText, recastRecord}

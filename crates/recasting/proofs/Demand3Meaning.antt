@@ -1,12 +1,12 @@
 -- Demand 3: each element but column 111 keeps its meaning or is blank, and is blank exactly when the target has no legal text with that meaning. Assumes nothing.
 use mathlib.Core.Path.{_≡_, refl, sym, ap, _∙_}
 use mathlib.Core.Logic.{_⊎_, inl, inr, _↔_, ⊎-elim}
-use mathlib.Core.Bool.{Bool, true, false, not, _&&_, _||_, true≢false}
+use mathlib.Core.Bool.{Bool, true, false, cond, not, _&&_, _||_, true≢false}
 use mathlib.Core.List.{List, []}
 use Prim.Native.Nat.{ℕ, _≤_}
 use borrow.Author.Tests.{eqb-true, eq-eqb, leb-true, leb-false}
 use lib.Dec.{eqb, leb}
-use Rattle.text.specs.Bytes.{every, blank}
+use Rattle.text.specs.Bytes.{every, blank, number}
 use Rattle.text.specs.Texts.{among, allows}
 use Rattle.text.proofs.Ways.{and-first}
 use Rattle.text.proofs.Among.{either-half, among-cases, at-number}
@@ -15,12 +15,14 @@ use Rattle.layout.specs.declared.Edition.the-variants.{One, Three, Four}
 use Rattle.layout.specs.Editions.{lastOf}
 use Rattle.layout.specs.Page.{textOf, textsOf, mayBeBlank, legal}
 use Rattle.layout.proofs.Beyond.{text-none, legal-none}
+use Rattle.places.specs.declared.Place.{Place}
+use Rattle.places.specs.Digits.{crosses}
+use Rattle.places.proofs.DigitLaws.{alike-places}
 use Rattle.ties.specs.Ties.{there}
 use Rattle.checking.specs.Acceptable.{Acceptable}
-use Rattle.reading.specs.declared.Reading.the-variants.{Missing}
-use Rattle.reading.specs.Readings.{south, west, placeOf, temperature, lead, itemOf}
-use Rattle.hemispheres.specs.Digits.{crosses}
-use Rattle.hemispheres.proofs.Request9Digits.{standing, HasDigit}
+use Rattle.reading.specs.declared.Reading.the-variants.{Missing, At}
+use Rattle.reading.specs.Readings.{placeOf, temperature, lead, itemOf}
+use Rattle.recasting.proofs.Request9Places.{standing, HasDigit}
 use Rattle.meanings.specs.declared.Sense.{Sense}
 use Rattle.meanings.specs.declared.Sense.the-variants.{Alike}
 use Rattle.meanings.specs.Meaning.{senseOf, senseNumber, sameSense, withoutDigit, shares, Meaning, reads, says, meaningOf}
@@ -40,16 +42,8 @@ no-place ed q la lo b = rw b
 
 -- editions between which column 12 stays read it alike
 alike-digits : (from to : Edition) (q la lo : List ℕ) → crosses from to ≡ false → placeOf to q la lo ≡ placeOf from q la lo
-unfolding placeOf south west
-alike-digits One One q la lo h = refl
-alike-digits One Three q la lo h = absurd (true≢false h)
-alike-digits One Four q la lo h = absurd (true≢false h)
-alike-digits Three One q la lo h = absurd (true≢false h)
-alike-digits Three Three q la lo h = refl
-alike-digits Three Four q la lo h = refl
-alike-digits Four One q la lo h = absurd (true≢false h)
-alike-digits Four Three q la lo h = refl
-alike-digits Four Four q la lo h = refl
+unfolding placeOf
+alike-digits from to q la lo h = ap (λ (p : Place). cond (blank q || blank la || blank lo) Missing (At p)) (alike-places from to (number q) (number la) (number lo) h)
 
 -- the digit that is taken gives the place that the other gave
 moved : (from to : Edition) (xs : List ℕ) (f : HasDigit from to xs) →

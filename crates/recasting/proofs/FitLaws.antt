@@ -16,9 +16,9 @@ use Rattle.layout.specs.Page.{widthOf, textOf}
 use Rattle.layout.proofs.Elements.{last-below}
 use Rattle.layout.proofs.RecordLaws.{text-long, same-record}
 use Rattle.checking.specs.Acceptable.{Acceptable}
-use Rattle.hemispheres.specs.Digits.{suits, crosses}
-use Rattle.hemispheres.proofs.Demand3Digits.{digit-found}
-use Rattle.hemispheres.proofs.Request9Digits.{HasDigit}
+use Rattle.places.specs.Digits.{suits, crosses}
+use Rattle.places.proofs.Demand3Digits.{digit-found}
+use Rattle.recasting.proofs.Request9Places.{HasDigit}
 use Rattle.meanings.specs.Kept.{lostText, lostAt}
 use Rattle.recasting.specs.Recast.{recastRecord}
 use Rattle.meanings.specs.Lost.{Expressible}

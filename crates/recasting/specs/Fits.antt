@@ -19,7 +19,7 @@ use Rattle.layout.specs.Page.{textOf}
 use Rattle.checking.specs.declared.Answer.the-variants.{Refused}
 use Rattle.checking.specs.Acceptable.{Acceptable}
 use Rattle.checking.specs.Acceptable as Checking
-use Rattle.hemispheres.specs.Digits.{suits, crosses}
+use Rattle.places.specs.Digits.{suits, crosses}
 use Rattle.recasting.specs.declared.Outcome.{Outcome}
 use Rattle.recasting.specs.declared.Outcome.the-variants.{Done, Unrecast}
 use Rattle.recasting.specs.Recast.{digitOf}

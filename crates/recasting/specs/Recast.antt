@@ -20,7 +20,7 @@ use Rattle.ties.specs.Ties.{there}
 use Rattle.checking.specs.declared.Answer.{Answer}
 use Rattle.checking.specs.declared.Answer.the-variants.{Accepted, Refused}
 use Rattle.checking.specs.Check.{checked}
-use Rattle.hemispheres.specs.Digits.{lowestDigit, crosses}
+use Rattle.places.specs.Digits.{lowestDigit, crosses}
 use Rattle.recasting.specs.declared.Outcome.{Outcome}
 use Rattle.recasting.specs.declared.Outcome.the-variants.{Done, Unrecast}
 use Rattle.meanings.specs.Kept.{lostAt}

@@ -63,7 +63,7 @@ fn hemisphere_of(from: Edition, to: Edition, line: &[u8]) -> u8
     ensures { λ r. ⌜ r ≡ hemisphere from to (now (line .entry)) ⌝ }
 {
     let digit = page::full_text(line, 6);
-    if !hemispheres::is_crossing(from, to) {
+    if !places::column_12::is_crossing(from, to) {
         return page::first_byte(line, 6);
     }
     if text::is_blank(digit) {
@@ -71,7 +71,7 @@ fn hemisphere_of(from: Edition, to: Edition, line: &[u8]) -> u8
     }
     let latitude = page::full_text(line, 7);
     let longitude = page::full_text(line, 8);
-    hemispheres::lowest_digit(
+    places::column_12::lowest_digit(
         from,
         to,
         text::number_of(digit),
@@ -92,7 +92,7 @@ fn fill_rest(from: Edition, line: &[u8], rest: &mut [u8])
     requires { ⌜ (length (now line) ≡ lengthOf from) × (length (now rest) ≡ 28) ⌝ }
     ensures { λ _. ⌜ now (rest .exit) ≡ drop 131 (widened (now (line .entry))) ⌝ }
 {
-    if hemispheres::is_first(from) {
+    if places::column_12::is_first(from) {
         let blanks = [32u8; 28];
         bytes::copy(&blanks, rest);
         return;
@@ -107,7 +107,7 @@ fn fill(from: Edition, to: Edition, line: &[u8], row: &mut [u8])
     ensures { λ _. ⌜ now (row .exit) ≡ take (lengthOf to) (widened (now (line .entry))) ⌝ }
 {
     bytes::copy(&line[..Edition::LENGTH_1], row);
-    if hemispheres::is_first(to) {
+    if places::column_12::is_first(to) {
         return;
     }
     let rest = &mut row[Edition::LENGTH_1..];

@@ -2,12 +2,13 @@
 //
 // All arithmetic is on plain numbers; signed ones are made here and nowhere else.
 ghost use mathlib.Core.Path.{_≡_};
-ghost use Prim.Native.Nat.{_^_, _≤_};
+ghost use Prim.Native.Nat.{_^_, _<_, _≤_};
 ghost use lib.IntN.{natAbs};
 ghost use Rattle.signs.specs.Signed.{signed, negative};
 
 // A number with its sign.
-pub fn signed_of(is_below: bool, n: u32) -> i64
+pub fn signed_of(is_below: bool, n: u64) -> i64
+    requires { ⌜ n < 2 ^ 63 ⌝ }
     ensures { λ r. ⌜ r ≡ signed «is_below» n ⌝ }
 {
     if is_below { -(n as i64) } else { n as i64 }

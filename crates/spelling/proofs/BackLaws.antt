@@ -23,20 +23,15 @@ use Rattle.ties.specs.Ties.{placeTie, signTie}
 use Rattle.ties.specs.Ties as Ties
 use Rattle.ties.proofs.Together.{latitude-alike, longitude-alike, value-alike}
 use Rattle.reading.specs.declared.Reading.the-variants.{Missing, Code, Text}
+use Rattle.places.proofs.PlaceLaws.{distance, digit-of-place, latitude-of-place, longitude-of-place}
 use Rattle.signs.specs.Signed.{signed, negative}
-use Rattle.reading.specs.Readings.{alwaysText, plain, below, kindOf, temperature, departure, south, west, east, placeOf}
+use Rattle.reading.specs.Readings.{alwaysText, plain, below, kindOf, temperature, departure, placeOf}
 use Rattle.spelling.specs.Spelled.{signDigit, amountNumeral, placeNumeral, numeralFor}
 
 -- a text that is blank, or digits whose number passes the test p
 pub data Holds (p : ℕ → Bool) (t : List ℕ) : Type 0 where
   empty : blank t ≡ true → Holds p t
   holds : blank t ≡ false → digits t ≡ true → p (number t) ≡ true → Holds p t
-
--- the distance from zero of a number with its sign
-pub distance : (b : Bool) (n : ℕ) → natAbs (signed b n) ≡ n
-distance true zero = refl
-distance true (suc n) = refl
-distance false n = refl
 
 -- an element by itself
 module _ (ed : Edition) (e : ℕ) (t : List ℕ) (long : length t ≡ widthOf e) (prints : every printable t ≡ true) where
@@ -116,14 +111,6 @@ unfolding departure numeralFor amountNumeral
 departure-back ed t l (empty a) = rw a (blanks-back (widthOf 91) t l a)
 departure-back ed t l (holds a d p) = rw (a, departed (number t) p) (digits-back (widthOf 91) t l d)
 
--- turned twice a longitude is what it was
-turned-back : (w : Bool) (l : ℕ) → l ≤ 1800 → east w (east w l) ≡ l
-turned-back false l h = refl
-turned-back true zero h = refl
-turned-back true (suc l) h =
-    let back : 3600 - (3600 - suc l) ≡ suc l = omega arith in
-    rw (mod-eq-of-lt {n = 3600 - suc l} {m = 3600} (omega arith), back) (mod-eq-of-lt {n = suc l} {m = 3600} (omega arith))
-
 -- column 12, latitude and longitude
 module _ (ed : Edition) (q la lo : List ℕ) (tied : placeTie q la lo ≡ true) where
   first-two : blank la ≡ blank q
@@ -135,16 +122,16 @@ module _ (ed : Edition) (q la lo : List ℕ) (tied : placeTie q la lo ≡ true) 
   pub digit-back : (p : ℕ → Bool) → length q ≡ widthOf 6 → Holds p q → spell (widthOf 6) (numeralFor ed 6 (placeOf ed q la lo)) ≡ q
   unfolding placeOf numeralFor placeNumeral
   digit-back p l (empty a) = rw a (blanks-back (widthOf 6) q l a)
-  digit-back p l (holds a d t) = rw (a, first-two ∙ a, last-two ∙ first-two ∙ a) (digits-back (widthOf 6) q l d)
+  digit-back p l (holds a d t) = rw (a, first-two ∙ a, last-two ∙ first-two ∙ a, digit-of-place ed (number q) (number la) (number lo)) (digits-back (widthOf 6) q l d)
 
   pub latitude-back : (p : ℕ → Bool) → length la ≡ widthOf 7 → Holds p la → spell (widthOf 7) (numeralFor ed 7 (placeOf ed q la lo)) ≡ la
   unfolding placeOf numeralFor placeNumeral
   latitude-back p l (empty a) = rw (sym first-two ∙ a) (blanks-back (widthOf 7) la l a)
   latitude-back p l (holds a d t) =
-      rw (sym first-two ∙ a, a, last-two ∙ a, distance (south ed (number q)) (number la)) (digits-back (widthOf 7) la l d)
+      rw (sym first-two ∙ a, a, last-two ∙ a, latitude-of-place ed (number q) (number la) (number lo)) (digits-back (widthOf 7) la l d)
 
   pub longitude-back : length lo ≡ widthOf 8 → Holds (between 0 1800) lo → spell (widthOf 8) (numeralFor ed 8 (placeOf ed q la lo)) ≡ lo
   unfolding placeOf numeralFor placeNumeral
   longitude-back l (empty a) = rw (sym first-two ∙ sym last-two ∙ a) (blanks-back (widthOf 8) lo l a)
   longitude-back l (holds a d t) =
-      rw (sym first-two ∙ sym last-two ∙ a, sym last-two ∙ a, a, turned-back (west ed (number q)) (number lo) (greatest 0 1800 (number lo) t)) (digits-back (widthOf 8) lo l d)
+      rw (sym first-two ∙ sym last-two ∙ a, sym last-two ∙ a, a, longitude-of-place ed (number q) (number la) (number lo) (greatest 0 1800 (number lo) t)) (digits-back (widthOf 8) lo l d)

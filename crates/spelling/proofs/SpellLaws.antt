@@ -10,13 +10,12 @@ use Rattle.text.specs.Texts.{among}
 use Rattle.numerals.specs.declared.Numeral.{Numeral}
 use Rattle.numerals.specs.Spelling.{inDigits, inBytes, inBlanks}
 use Rattle.layout.specs.declared.Edition.{Edition}
-use Rattle.layout.specs.declared.Edition.the-variants.{One, Three, Four}
+use Rattle.places.specs.declared.Place.{Place}
+use Rattle.places.specs.Places.{latitudeFigure, longitudeFigure}
 use Rattle.reading.specs.declared.Kind.{Kind}
-use Rattle.reading.specs.declared.Place.{Place}
 use Rattle.reading.specs.declared.Reading.{Reading}
 use Rattle.reading.specs.declared.Reading.the-variants.{Missing, Code, Text, Amount, At}
 use Rattle.signs.specs.Signed.{negative}
-use Rattle.reading.specs.Readings.{west, east}
 use Rattle.spelling.specs.Same.{kindNumber, partsOf, sameParts, same}
 use Rattle.spelling.specs.declared.Parts.{Parts}
 use Rattle.spelling.specs.Spelled.{signDigit, amountNumeral, placeNumeral, numeralFor}
@@ -33,13 +32,6 @@ pub place-parts : (p : Place) (x : Bool) (n : ℕ) → x ≡ negative (p .latitu
     record { case = 4; below = x; first = n; second = p .longitude; third = p .digit } ≡ partsOf (At p)
 unfolding partsOf
 place-parts p x n e f = rw (e, f)
-
--- a digit past 9 gives no western hemisphere
-pub west-far : (ed : Edition) (d : ℕ) → 9 < d → false ≡ west ed d
-unfolding west
-west-far One d h = rw (ne-eqb d 0 (λ e. omega arith), ne-eqb d 1 (λ e. omega arith), ne-eqb d 5 (λ e. omega arith), ne-eqb d 6 (λ e. omega arith))
-west-far Three d h = rw (ne-eqb d 5 (λ e. omega arith), ne-eqb d 7 (λ e. omega arith))
-west-far Four d h = rw (ne-eqb d 5 (λ e. omega arith), ne-eqb d 7 (λ e. omega arith))
 
 -- an amount, by the kind of element
 module _ (e : ℕ) (a : ℤ) (k : Kind) where
@@ -91,11 +83,11 @@ module _ (ed : Edition) (e : ℕ) (p : Place) where
   unfolding placeNumeral
   place-digit h = rw h
 
-  pub place-latitude : e ≡ 7 → placeNumeral ed e p ≡ inDigits (natAbs (p .latitude))
+  pub place-latitude : e ≡ 7 → placeNumeral ed e p ≡ inDigits (latitudeFigure p)
   unfolding placeNumeral
   place-latitude h = rw h
 
-  pub place-longitude : e ≡ 8 → placeNumeral ed e p ≡ inDigits (east (west ed (p .digit)) (p .longitude))
+  pub place-longitude : e ≡ 8 → placeNumeral ed e p ≡ inDigits (longitudeFigure ed p)
   unfolding placeNumeral
   place-longitude h = rw h
 
@@ -131,7 +123,7 @@ numeral-fits ed e (Code n) = digits-fit n
 numeral-fits ed e (Text n) = bytes-fit n
 numeral-fits ed e (Amount a k) =
     one-of-three (among 16 18 28 50 e) (among 17 19 29 51 e) (eqb e 91) (signDigit (negative a) k) (natAbs a) (cond (negative a) (natAbs a + 100) (natAbs a))
-numeral-fits ed e (At p) = one-of-three (eqb e 6) (eqb e 7) (eqb e 8) (p .digit) (natAbs (p .latitude)) (east (west ed (p .digit)) (p .longitude))
+numeral-fits ed e (At p) = one-of-three (eqb e 6) (eqb e 7) (eqb e 8) (p .digit) (latitudeFigure p) (longitudeFigure ed p)
 
 pub with-fit : (ed : Edition) (e : ℕ) (r : Reading) {m : Numeral} → m ≡ numeralFor ed e r → (m ≡ numeralFor ed e r) × ((0 < m .base) × (m .nought + m .base ≤ 256))
 with-fit ed e r f = (f, rw f (numeral-fits ed e r .positive, numeral-fits ed e r .byte))

@@ -11,13 +11,14 @@ use Rattle.numerals.specs.Spelling.{inDigits, inBytes, inBlanks, spell}
 use Rattle.layout.specs.declared.Edition.{Edition}
 use Rattle.layout.specs.Page.{widthOf}
 use Rattle.layout.specs.Records.{rowFrom, recordFrom}
+use Rattle.places.specs.declared.Place.{Place}
+use Rattle.places.specs.Places.{latitudeFigure, longitudeFigure}
 use Rattle.reading.specs.declared.Kind.{Kind}
 use Rattle.reading.specs.declared.Kind.the-variants.{Measured, Computed, IcedMeasured, IcedComputed}
-use Rattle.reading.specs.declared.Place.{Place}
 use Rattle.reading.specs.declared.Reading.{Reading}
 use Rattle.reading.specs.declared.Reading.the-variants.{Missing, Code, Text, Amount, At}
 use Rattle.signs.specs.Signed.{negative}
-use Rattle.reading.specs.Readings.{west, east, lead}
+use Rattle.reading.specs.Readings.{lead}
 
 -- the sign of an amount: 0, 1 measured, 5, 6 computed, 2 and 7 iced
 abbrev pub signDigit : Bool → Kind → ℕ
@@ -38,8 +39,8 @@ amountNumeral e a k =
 unfoldable pub placeNumeral : Edition → ℕ → Place → Numeral
 placeNumeral ed e p =
     cond (eqb e 6) (inDigits (p .digit))
-    (cond (eqb e 7) (inDigits (natAbs (p .latitude)))
-    (cond (eqb e 8) (inDigits (east (west ed (p .digit)) (p .longitude)))
+    (cond (eqb e 7) (inDigits (latitudeFigure p))
+    (cond (eqb e 8) (inDigits (longitudeFigure ed p))
     inBlanks))
 
 -- what is written in the columns of element e for a reading

@@ -7,15 +7,14 @@
 use layout::Edition;
 use layout::widths;
 use numerals::Numeral;
+use places::Place;
 use reading::Kind;
-use reading::Place;
 use reading::Reading;
 ghost use mathlib.Core.Path.{_≡_};
 ghost use mathlib.Core.Bool.{cond};
 ghost use Prim.Native.Nat.{_≤_, _<_, _+_, _^_};
 ghost use lib.ListN.{length};
 ghost use Rattle.text.specs.Texts.{among};
-ghost use Rattle.reading.specs.Readings.{west};
 ghost use Rattle.spelling.specs.Spelled.{signDigit, amountNumeral, placeNumeral, numeralFor, rowFor};
 ghost use Rattle.spelling.specs.Same.{kindNumber, partsOf, same};
 
@@ -155,24 +154,14 @@ fn amount_numeral(e: usize, a: i64, kind: Kind) -> Numeral
     Numeral::blanks()
 }
 
-// Does the digit give the western hemisphere?
-fn is_west(edition: Edition, digit: u64) -> bool
-    ensures { λ r. ⌜ r ≡ west edition digit ⌝ }
-{
-    if 9 < digit {
-        return false;
-    }
-    reading::is_west(edition, digit as u32)
-}
-
 // What is written for a place in the columns of element e.
 fn place_numeral(edition: Edition, e: usize, place: Place) -> Numeral
     ensures { λ r. ⌜ r ≡ placeNumeral edition e place ⌝ }
 {
     match e {
         6 => Numeral::digits(place.digit),
-        7 => Numeral::digits(signs::magnitude(place.latitude)),
-        8 => Numeral::digits(reading::east_of(is_west(edition, place.digit), place.longitude)),
+        7 => Numeral::digits(places::latitude_figure(place)),
+        8 => Numeral::digits(places::longitude_figure(edition, place)),
         _ => Numeral::blanks(),
     }
 }

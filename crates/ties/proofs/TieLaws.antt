@@ -11,7 +11,8 @@ use lib.ListN.{length, List·getD-eq-default}
 use Rattle.text.specs.Bytes.{number}
 use Rattle.text.proofs.First.{Found, past-zero, found, same-found}
 use Rattle.text.proofs.Ways.{and-stops, and-goes-on, decide}
-use Rattle.ties.specs.Ties.{there, placeTie, octantFits, negative, signTie, ties, tie, firstBroken}
+use Rattle.places.specs.Places.{octantFits}
+use Rattle.ties.specs.Ties.{there, placeTie, negative, signTie, ties, tie, firstBroken}
 use Rattle.layout.specs.declared.Edition.{Edition}
 
 -- two texts: both there or both blank

@@ -5,12 +5,12 @@ use mathlib.Core.Bool.{Bool, true, cond, not, _&&_, _||_, Bool·beq}
 use lib.Dec.{eqb, leb}
 use lib.ListN.{length, getD}
 use Rattle.text.specs.Bytes.{blank, number}
-use Rattle.text.specs.Texts.{among}
 use Rattle.text.specs.First.{firstOf}
 use Rattle.calendar.specs.Calendar.{lastDayIn, widestDay}
 use Rattle.layout.specs.declared.Edition.{Edition}
 use Rattle.layout.specs.declared.Edition.the-variants.{One, Three, Four}
 use Rattle.layout.specs.Page.{textOf}
+use Rattle.places.specs.Places.{octantFits}
 
 -- something is written there
 abbrev pub there : List ℕ → Bool
@@ -21,9 +21,6 @@ unfoldable pub placeTie : List ℕ → List ℕ → List ℕ → Bool
 placeTie digit latitude longitude = Bool·beq (there digit) (there latitude) && Bool·beq (there latitude) (there longitude)
 
 -- 2. edition 1: octants 0, 3, 5, 8 need longitude at most 0900; 1, 2, 6, 7 at least 0900
-unfoldable pub octantFits : ℕ → ℕ → Bool
-octantFits octant longitude = cond (among 0 3 5 8 octant) (leb longitude 900) (leb 900 longitude)
-
 unfoldable pub octantTie : Edition → List ℕ → List ℕ → Bool
 octantTie One digit longitude = blank digit || octantFits (number digit) (number longitude)
 octantTie Three digit longitude = true

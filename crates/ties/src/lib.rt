@@ -9,7 +9,7 @@ ghost use mathlib.Core.Bool.{Bool·beq, not, _&&_};
 ghost use Prim.Native.Nat.{_≤_};
 ghost use lib.Dec.{eqb};
 ghost use lib.ListN.{length};
-ghost use Rattle.ties.specs.Ties.{there, placeTie, octantFits, octantTie, negative, signTie, lastDigit, tenthsFit, measuredFit, windTie, tie, firstBroken};
+ghost use Rattle.ties.specs.Ties.{there, placeTie, octantTie, negative, signTie, lastDigit, tenthsFit, measuredFit, windTie, tie, firstBroken};
 
 // Is the element filled?
 fn is_there(text: &[u8]) -> bool
@@ -26,23 +26,12 @@ fn place_tie(digit: &[u8], latitude: &[u8], longitude: &[u8]) -> bool
     text::same(is_there(digit), at) && text::same(at, is_there(longitude))
 }
 
-// Does the longitude lie in the octant's range?
-pub fn octant_fits(octant: u32, longitude: u32) -> bool
-    ensures { λ r. ⌜ r ≡ octantFits octant longitude ⌝ }
-{
-    if text::is_among(octant, 0, 3, 5, 8) {
-        longitude <= 900
-    } else {
-        900 <= longitude
-    }
-}
-
 // Tie 2, in edition 1.
 fn octant_holds(digit: &[u8], longitude: &[u8]) -> bool
     requires { ⌜ (length (now digit) ≤ 7) × (length (now longitude) ≤ 7) ⌝ }
     ensures { λ r. ⌜ r ≡ octantTie Edition.One (now (digit .entry)) (now (longitude .entry)) ⌝ }
 {
-    text::is_blank(digit) || octant_fits(text::number_of(digit), text::number_of(longitude))
+    text::is_blank(digit) || places::octant_fits(text::number_of(digit), text::number_of(longitude))
 }
 
 // Tie 2.

@@ -9,9 +9,9 @@
 //
 // What is written is given as four numbers for each element (the case; the code or the text's number; the
 // kind or the longitude; the digit) and, beside them, one number with a sign (the amount or the latitude).
+use places::Place;
 use reading::Found;
 use reading::Kind;
-use reading::Place;
 use reading::Reading;
 use writing::Outcome;
 ghost use mathlib.Core.Path.{_≡_};

@@ -10,11 +10,12 @@ use Rattle.layout.specs.declared.Edition.the-variants.{Four}
 use Rattle.layout.specs.declared.Refusal.the-variants.{Illegal}
 use Rattle.layout.specs.Page.{element, page, columns, startOf, textOf, legal}
 use Rattle.layout.specs.Records.{rowFrom, recordFrom}
-use Rattle.ties.specs.Ties.{placeTie, octantFits, octantTie, signTie, lastDigit, digitTie, windTie, tie}
+use Rattle.places.specs.Places.{south, west, octantFits, placeAt, latitudeFigure, longitudeFigure}
+use Rattle.ties.specs.Ties.{placeTie, octantTie, signTie, lastDigit, digitTie, windTie, tie}
 use Rattle.reading.specs.declared.Kind.the-variants.{Measured}
 use Rattle.reading.specs.declared.Reading.{Reading}
 use Rattle.reading.specs.declared.Reading.the-variants.{Code, Text, Amount}
-use Rattle.reading.specs.Readings.{plain, temperature, departure, south, west, placeOf, itemOf}
+use Rattle.reading.specs.Readings.{plain, temperature, departure, placeOf, itemOf}
 use Rattle.spelling.specs.Same.{partsOf, same}
 use Rattle.spelling.specs.Spelled.{amountNumeral, placeNumeral, numeralFor, recordOf}
 use Rattle.writing.specs.declared.Outcome.the-variants.{Unwritten}
@@ -23,7 +24,7 @@ use Rattle.writing.proofs.Demand2TiesBroken.{missing, said, of-edition}
 
 -- 2 to the 32 and 3 is no month, though its last 32 bits are 3
 pub whole-code : writtenIn Four (said 3 (Code 4294967299) (of-edition 3 4)) 159 ≡ Unwritten (Illegal 3)
-unfolding writtenIn missing said recordOf recordFrom rowFrom spelled numeralFor amountNumeral placeNumeral writes legal allows every valueFrom textOf startOf columns element page tie firstFrom itemOf plain temperature placeOf departure south west same partsOf octantTie octantFits placeTie signTie digitTie lastDigit windTie
+unfolding writtenIn missing said recordOf recordFrom rowFrom spelled numeralFor amountNumeral placeNumeral writes legal allows every valueFrom textOf startOf columns element page tie firstFrom itemOf plain temperature placeOf departure south west placeAt latitudeFigure longitudeFigure same partsOf octantTie octantFits placeTie signTie digitTie lastDigit windTie
 whole-code = refl
 
 -- the lowest amount there is
@@ -31,10 +32,10 @@ abbrev pub farthest : Reading
 farthest = Amount (negsuc 9223372036854775807) Measured
 
 pub whole-amount : writtenIn Four (said 16 farthest (said 17 farthest (of-edition 3 4))) 159 ≡ Unwritten (Illegal 16)
-unfolding writtenIn missing said recordOf recordFrom rowFrom spelled numeralFor amountNumeral placeNumeral writes legal allows every valueFrom textOf startOf columns element page tie firstFrom itemOf plain temperature placeOf departure south west same partsOf octantTie octantFits placeTie signTie digitTie lastDigit windTie
+unfolding writtenIn missing said recordOf recordFrom rowFrom spelled numeralFor amountNumeral placeNumeral writes legal allows every valueFrom textOf startOf columns element page tie firstFrom itemOf plain temperature placeOf departure south west placeAt latitudeFigure longitudeFigure same partsOf octantTie octantFits placeTie signTie digitTie lastDigit windTie
 whole-amount = refl
 
 -- the greatest text there is
 pub whole-text : writtenIn Four (said 42 (Text 18446744073709551615) (of-edition 3 4)) 159 ≡ Unwritten (Illegal 42)
-unfolding writtenIn missing said recordOf recordFrom rowFrom spelled numeralFor amountNumeral placeNumeral writes legal allows every valueFrom textOf startOf columns element page tie firstFrom itemOf plain temperature placeOf departure south west same partsOf octantTie octantFits placeTie signTie digitTie lastDigit windTie run
+unfolding writtenIn missing said recordOf recordFrom rowFrom spelled numeralFor amountNumeral placeNumeral writes legal allows every valueFrom textOf startOf columns element page tie firstFrom itemOf plain temperature placeOf departure south west placeAt latitudeFigure longitudeFigure same partsOf octantTie octantFits placeTie signTie digitTie lastDigit windTie run
 whole-text = refl

@@ -13,11 +13,12 @@ use Rattle.layout.specs.declared.Edition.the-variants.{One, Three, Four}
 use Rattle.layout.specs.declared.Refusal.the-variants.{Broken}
 use Rattle.layout.specs.Page.{element, page, columns, startOf, textOf, legal}
 use Rattle.layout.specs.Records.{rowFrom, recordFrom}
-use Rattle.ties.specs.Ties.{placeTie, octantFits, octantTie, signTie, lastDigit, digitTie, windTie, latestDay, dayTie, tie, firstBroken}
+use Rattle.places.specs.Places.{south, west, octantFits, placeAt, latitudeFigure, longitudeFigure}
+use Rattle.ties.specs.Ties.{placeTie, octantTie, signTie, lastDigit, digitTie, windTie, latestDay, dayTie, tie, firstBroken}
 use Rattle.reading.specs.declared.Kind.the-variants.{Measured}
 use Rattle.reading.specs.declared.Reading.{Reading}
 use Rattle.reading.specs.declared.Reading.the-variants.{Missing, Code, Amount, At}
-use Rattle.reading.specs.Readings.{plain, temperature, departure, south, west, placeOf, itemOf}
+use Rattle.reading.specs.Readings.{plain, temperature, departure, placeOf, itemOf}
 use Rattle.spelling.specs.Same.{partsOf, same}
 use Rattle.spelling.specs.Spelled.{amountNumeral, placeNumeral, numeralFor, recordOf}
 use Rattle.writing.specs.declared.Outcome.{Outcome}
@@ -55,5 +56,5 @@ broken-each =
 
 -- each of those ties can be broken
 pub breaks-each : broken-each ≡ map (λ k. Unwritten (Broken k)) between-readings
-unfolding writtenIn missing said recordOf recordFrom rowFrom spelled numeralFor amountNumeral placeNumeral writes legal allows every valueFrom textOf startOf columns element page tie firstBroken firstFrom itemOf plain temperature placeOf departure south west same partsOf octantTie octantFits placeTie signTie digitTie lastDigit windTie dayTie latestDay leaps lastDay
+unfolding writtenIn missing said recordOf recordFrom rowFrom spelled numeralFor amountNumeral placeNumeral writes legal allows every valueFrom textOf startOf columns element page tie firstBroken firstFrom itemOf plain temperature placeOf departure south west placeAt latitudeFigure longitudeFigure same partsOf octantTie octantFits placeTie signTie digitTie lastDigit windTie dayTie latestDay leaps lastDay
 breaks-each = refl

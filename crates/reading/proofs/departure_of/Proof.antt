@@ -16,12 +16,19 @@ returns c = no-departure _ _ (c .before .is-blank .ensures) (c .if1 .taken)
 number-of-requires : tie.Need-number-of-requires
 number-of-requires c κs = search needs
 
+wide-requires : tie.Need-wide-requires
+wide-requires c κs = search needs
+
 signed-of-requires : tie.Need-signed-of-requires
 signed-of-requires c κs = search needs
 
 returns-2 : tie.Need-returns-2
-returns-2 c = is-departure _ _ (c .before .before .before .is-blank .ensures) (c .before .before .if1 .left) _ _ (c .before .number-of .ensures) (toZ-ofZ {w = w64} {z = c .signed-of .result} (record { sfits = c .signed-of .ok }) ∙ c .signed-of .ensures)
+returns-2 c =
+    let number = c .before .before in
+    let test = number .before in
+    is-departure _ _ (test .before .is-blank .ensures) (test .if1 .left) _ _ _ (number .number-of .ensures) (c .before .wide .ensures)
+    (toZ-ofZ {w = w64} {z = c .signed-of .result} (record { sfits = c .signed-of .ok }) ∙ c .signed-of .ensures)
 
 pub departure-of-spec : {M : Type 1} → statement M
 departure-of-spec =
-    tie.close (tie.spec is-blank-requires returns number-of-requires signed-of-requires returns-2)
+    tie.close (tie.spec is-blank-requires returns number-of-requires wide-requires signed-of-requires returns-2)

@@ -28,6 +28,9 @@ is-among-requires c κs = search needs
 number-of-requires-2 : tie.Need-number-of-requires-2
 number-of-requires-2 c κs = search needs
 
+wide-requires : tie.Need-wide-requires
+wide-requires c κs = search needs
+
 signed-of-requires : tie.Need-signed-of-requires
 signed-of-requires c κs = search needs
 
@@ -35,7 +38,15 @@ kind-of-requires : tie.Need-kind-of-requires
 kind-of-requires c κs = search needs
 
 returns-3 : tie.Need-returns-3
-returns-3 c = is-temperature _ _ _ (c .before .before .before .before .before .before .before .before .is-blank .ensures) (c .before .before .before .before .before .before .before .if1 .left) _ (c .before .before .before .before .before .before .is-blank2 .ensures) (c .before .before .before .before .before .if2 .left) _ _ _ _ _ (c .before .before .before .before .number-of .ensures) (c .before .before .before .is-among .ensures) (c .before .before .number-of2 .ensures) (toZ-ofZ {w = w64} {z = c .before .signed-of .result} (record { sfits = c .before .signed-of .ok }) ∙ c .before .signed-of .ensures) (c .kind-of .ensures)
+returns-3 c =
+    let amount = c .before in
+    let value = amount .before .before in
+    let below = value .before in
+    let sign = below .before in
+    let second = sign .before in
+    let first = second .before .before in
+    is-temperature _ _ _ (first .before .is-blank .ensures) (first .if1 .left) _ (second .before .is-blank2 .ensures) (second .if2 .left) _ _ _ _ _ (sign .number-of .ensures) (below .is-among .ensures)
+    (amount .before .wide .ensures ∙ value .number-of2 .ensures) (toZ-ofZ {w = w64} {z = amount .signed-of .result} (record { sfits = amount .signed-of .ok }) ∙ amount .signed-of .ensures) (c .kind-of .ensures)
 
 pub temperature-of-spec : {M : Type 1} → statement M
 temperature-of-spec =
@@ -48,6 +59,7 @@ temperature-of-spec =
     number-of-requires
     is-among-requires
     number-of-requires-2
+    wide-requires
     signed-of-requires
     kind-of-requires
     returns-3)

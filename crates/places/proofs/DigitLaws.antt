@@ -1,0 +1,139 @@
+-- What each way through the code of column 12 says of the definitions. Assumes nothing.
+use mathlib.Core.Path.{_≡_, refl, sym, ap, _∙_}
+use mathlib.Core.Bool.{Bool, true, false, not, Bool·beq, true≢false}
+use Prim.Native.Nat.{ℕ, zero, suc, _+_, _-_, _*_, _≤_}
+use native.Mathlib.Omega.{arith}
+use borrow.Author.Tests.{eq-eqb, ne-eqb, le-leb}
+use lib.Dec.{eqb}
+use Rattle.text.specs.First.{firstFrom}
+use Rattle.text.specs.Bytes.{either, every, valueFrom}
+use Rattle.text.specs.Texts.{among, allows}
+use Rattle.text.proofs.First.{end, off, on}
+use Rattle.layout.specs.declared.Edition.{Edition}
+use Rattle.layout.specs.declared.Edition.the-variants.{One, Three, Four}
+use Rattle.layout.specs.Page.{element, page}
+use lib.IntN.{natAbs}
+use Rattle.signs.specs.Signed.{signed, negative}
+use Rattle.places.specs.declared.Place.{Place}
+use Rattle.places.specs.Places.{south, west, placeAt}
+use Rattle.places.specs.Digits.{sameSigned, onePlace, samePlace, keepsTie, mayStand, isFirst, crosses, suits, lowestDigit}
+
+-- which digits may stand in column 12
+module _ (digit : ℕ) (h : digit ≤ 9) where
+  low : 48 ≤ 48 + digit
+  low = omega arith
+
+  high : 48 + digit ≤ 57
+  high = omega arith
+
+  said : 0 * 10 + (48 + digit - 48) ≡ digit
+  said = omega arith
+
+  pub octant-stands : either 0 3 5 8 digit ≡ mayStand One digit
+  unfolding allows element page every valueFrom
+  octant-stands = rw (le-leb 48 (48 + digit) low, le-leb (48 + digit) 57 high, said)
+
+  pub quadrant-stands : among 1 3 5 7 digit ≡ mayStand Three digit
+  unfolding allows element page every valueFrom
+  quadrant-stands = rw (le-leb 48 (48 + digit) low, le-leb (48 + digit) 57 high, said)
+
+  -- quadrants are the same in editions 3 and 4
+  pub quadrant-stands-in-4 : among 1 3 5 7 digit ≡ mayStand Four digit
+  unfolding element page
+  quadrant-stands-in-4 = quadrant-stands
+
+-- the edition that an arm was taken at
+pub stands-at : {a b : Edition} (digit : ℕ) → a ≡ b → mayStand b digit ≡ mayStand a digit
+stands-at digit e = sym (ap (λ (ed : Edition). mayStand ed digit) e)
+
+pub tie-at : {a b : Edition} (digit longitude : ℕ) → a ≡ b → keepsTie b digit longitude ≡ keepsTie a digit longitude
+tie-at digit longitude e = sym (ap (λ (ed : Edition). keepsTie ed digit longitude) e)
+
+-- off the equator north and south are two
+pub off-equator : (a b : Bool) (n : ℕ) → (n ≡ 0 → ⊥) → Bool·beq a b ≡ sameSigned (signed a n) (signed b n)
+off-equator a b zero h = absurd (h refl)
+off-equator true true (suc n) h = sym (eq-eqb (suc n) (suc n) refl)
+off-equator true false (suc n) h = refl
+off-equator false true (suc n) h = refl
+off-equator false false (suc n) h = sym (eq-eqb (suc n) (suc n) refl)
+
+-- two places, by what the code found of the sides of the equator, and of the distances from it
+module _ (p q : Place) (x y s : Bool) (e : x ≡ negative (p .latitude)) (f : y ≡ negative (q .latitude)) (g : s ≡ Bool·beq x y) where
+  pub sides-apart : s ≡ false → false ≡ onePlace p q
+  sides-apart h = rw (← e, ← f, ← g, h)
+
+  module _ (h : s ≡ true) (m n : ℕ) (k : m ≡ natAbs (p .latitude)) (l : n ≡ natAbs (q .latitude)) where
+    pub latitudes-apart : (m ≡ n → ⊥) → false ≡ onePlace p q
+    latitudes-apart o = rw (← e, ← f, ← g, h, ← k, ← l, ne-eqb m n o)
+
+    pub one-latitude : m ≡ n → eqb (p .longitude) (q .longitude) ≡ onePlace p q
+    one-latitude o = rw (← e, ← f, ← g, h, ← k, ← l, eq-eqb m n o)
+
+-- the place that each of two digits gives
+pub of-digits : (from : Edition) (d : ℕ) (to : Edition) (c latitude longitude : ℕ) (p q : Place) → p ≡ placeAt from d latitude longitude → q ≡ placeAt to c latitude longitude →
+    onePlace p q ≡ samePlace from d to c latitude longitude
+of-digits from d to c latitude longitude p q e f = rw (e, f)
+
+-- a digit that may not stand, one that gives another place, and one that gives the same
+module _ (from to : Edition) (d latitude longitude c : ℕ) (x : Bool) (e : x ≡ mayStand to c) where
+  pub not-standing : x ≡ false → false ≡ suits from to d latitude longitude c
+  unfolding suits
+  not-standing h = rw (← e, h)
+
+  module _ (h : x ≡ true) (y : Bool) (f : y ≡ samePlace from d to c latitude longitude) where
+    pub not-same : y ≡ false → y ≡ suits from to d latitude longitude c
+    unfolding suits
+    not-same k = rw (← e, h, ← f, k)
+
+    pub same-and : y ≡ true → (z : Bool) → z ≡ keepsTie to c longitude → z ≡ suits from to d latitude longitude c
+    unfolding suits
+    same-and k z g = rw (← e, h, ← f, k, ← g)
+
+pub crossing : (from to : Edition) (x y z : Bool) → x ≡ isFirst from → y ≡ isFirst to → z ≡ Bool·beq x y → not z ≡ crosses from to
+crossing from to x y z e f g = rw (g, e, f)
+
+-- editions between which column 12 stays take a digit alike
+pub alike-places : (from to : Edition) (d la lo : ℕ) → crosses from to ≡ false → placeAt to d la lo ≡ placeAt from d la lo
+unfolding placeAt south west
+alike-places One One d la lo h = refl
+alike-places One Three d la lo h = absurd (true≢false h)
+alike-places One Four d la lo h = absurd (true≢false h)
+alike-places Three One d la lo h = absurd (true≢false h)
+alike-places Three Three d la lo h = refl
+alike-places Three Four d la lo h = refl
+alike-places Four One d la lo h = absurd (true≢false h)
+alike-places Four Three d la lo h = refl
+alike-places Four Four d la lo h = refl
+
+-- the loop over the characters '0' to '9': none before b suits; b says the digit k, and x is what the code found of k
+module _ (from to : Edition) (d latitude longitude : ℕ) where
+  abbrev pub unsuited : ℕ → Bool
+  unsuited b = not (suits from to d latitude longitude (b - 48))
+
+  abbrev pub leaves : ℕ → Type 0
+  leaves b = lowestDigit from to d latitude longitude ≡ firstFrom unsuited b (57 + 1 - b)
+
+  pub begins : leaves 48
+  unfolding lowestDigit
+  begins = refl
+
+  module _ (b k : ℕ) (x : Bool) (e : k ≡ b - 48) (f : x ≡ suits from to d latitude longitude k) where
+    pub suited-at : x ≡ true → unsuited b ≡ false
+    suited-at h = rw (← e, ← f, h)
+
+    unsuited-at : x ≡ false → unsuited b ≡ true
+    unsuited-at h = rw (← e, ← f, h)
+
+    pub taken : leaves b → b ≤ 57 → x ≡ true → b ≡ lowestDigit from to d latitude longitude
+    taken i l h = sym (i ∙ off unsuited 57 b l (suited-at h))
+
+    pub passed : leaves b → b ≤ 57 → x ≡ false → leaves (b + 1)
+    passed i l h = i ∙ on unsuited 57 b l (unsuited-at h)
+
+  -- where some digit suits and none before the last one, it is the last
+  pub ended : (b : ℕ) → leaves b → b ≤ 57 → 57 ≤ b → 1 ≤ lowestDigit from to d latitude longitude → b ≡ lowestDigit from to d latitude longitude
+  ended b i l h some = by (unsuited b) refl
+    where
+      by : (x : Bool) → unsuited b ≡ x → b ≡ lowestDigit from to d latitude longitude
+      by true e = let none : lowestDigit from to d latitude longitude ≡ 0 = i ∙ on unsuited 57 b l e ∙ end unsuited 57 (b + 1) (omega arith) in absurd (omega arith)
+      by false e = sym (i ∙ off unsuited 57 b l e)

@@ -1,0 +1,47 @@
+-- `places::column_12::may_stand` meets its contract. Assumes nothing.
+use borrow.Author.Needs.{needs}
+use mathlib.Core.Path.{_∙_}
+use Rattle.places.proofs.DigitLaws.{octant-stands, quadrant-stands, quadrant-stands-in-4, stands-at}
+use Rattle.places.proofs.column_12.may_stand.Statement.{statement}
+use Rattle.places.proofs.column_12.may_stand.Tie as tie
+
+enum-told : tie.Need-enum-told
+enum-told c = search needs
+
+is-either-requires : tie.Need-is-either-requires
+is-either-requires c κs = search needs
+
+enum-told-2 : tie.Need-enum-told-2
+enum-told-2 c = search needs
+
+is-among-requires : tie.Need-is-among-requires
+is-among-requires c κs = search needs
+
+enum-told-3 : tie.Need-enum-told-3
+enum-told-3 c = search needs
+
+is-among-requires-2 : tie.Need-is-among-requires-2
+is-among-requires-2 c κs = search needs
+
+returns : tie.Need-returns
+returns c = c .is-either .ensures ∙ octant-stands _ (c .before .before .before .pre) ∙ stands-at _ (c .before .enum-told .given .1)
+
+returns-2 : tie.Need-returns-2
+returns-2 c = c .is-among .ensures ∙ quadrant-stands _ (c .before .before .before .pre) ∙ stands-at _ (c .before .enum-told2 .given .1)
+
+returns-3 : tie.Need-returns-3
+returns-3 c = c .is-among2 .ensures ∙ quadrant-stands-in-4 _ (c .before .before .before .pre) ∙ stands-at _ (c .before .enum-told3 .given .1)
+
+pub may-stand-spec : {M : Type 1} → statement M
+may-stand-spec =
+    tie.close
+    (tie.spec
+    enum-told
+    is-either-requires
+    enum-told-2
+    is-among-requires
+    enum-told-3
+    is-among-requires-2
+    returns
+    returns-2
+    returns-3)

@@ -1,0 +1,20 @@
+-- `places::longitude_figure` meets its contract. Assumes nothing.
+use Rattle.places.specs.Places.{east, longitudeFigure}
+use borrow.Author.Needs.{needs}
+use mathlib.Core.Bool.{Bool}
+use mathlib.Core.Path.{_∙_, ap}
+use Rattle.places.proofs.longitude_figure.Statement.{statement}
+use Rattle.places.proofs.longitude_figure.Tie as tie
+
+gives-west-requires : tie.Need-gives-west-requires
+gives-west-requires c κs = search needs
+
+east-of-requires : tie.Need-east-of-requires
+east-of-requires c κs = search needs
+
+returns : tie.Need-returns
+unfolding longitudeFigure
+returns c = c .east-of .ensures ∙ ap (λ (b : Bool). east b (c .before .before .args .place .longitude)) (c .before .gives-west .ensures)
+
+pub longitude-figure-spec : {M : Type 1} → statement M
+longitude-figure-spec = tie.close (tie.spec gives-west-requires east-of-requires returns)

@@ -1,0 +1,44 @@
+-- Places: what column 12, latitude and longitude say together, and what stands in those columns for a place. Assumes nothing.
+use Prim.Native.Nat.{ℕ, _-_, _%_}
+use mathlib.Core.Bool.{Bool, cond}
+use lib.Dec.{leb}
+use lib.IntN.{natAbs}
+use Rattle.text.specs.Texts.{among}
+use Rattle.layout.specs.declared.Edition.{Edition}
+use Rattle.layout.specs.declared.Edition.the-variants.{One, Three, Four}
+use Rattle.signs.specs.Signed.{signed}
+use Rattle.places.specs.declared.Place.{Place}
+
+-- the hemispheres that a digit gives: octants in edition 1, quadrants in the others
+unfoldable pub south : Edition → ℕ → Bool
+south One digit = leb 5 digit
+south Three digit = among 3 5 3 5 digit
+south Four digit = among 3 5 3 5 digit
+
+unfoldable pub west : Edition → ℕ → Bool
+west One digit = among 0 1 5 6 digit
+west Three digit = among 5 7 5 7 digit
+west Four digit = among 5 7 5 7 digit
+
+-- an octant's range, which is tie 2's business: 0, 3, 5, 8 need longitude at most 0900; 1, 2, 6, 7 at least 0900
+unfoldable pub octantFits : ℕ → ℕ → Bool
+octantFits octant longitude = cond (among 0 3 5 8 octant) (leb longitude 900) (leb 900 longitude)
+
+-- east longitude, 0..3599; 180.0 W is 180.0 E. The same turns it back
+abbrev pub east : Bool → ℕ → ℕ
+east isWest longitude = cond isWest ((3600 - longitude) % 3600) longitude
+
+-- the place that a digit, a latitude and a longitude give, each the number that its columns say
+unfoldable pub placeAt : Edition → ℕ → ℕ → ℕ → Place
+placeAt ed digit latitude longitude = record {
+  latitude = signed (south ed digit) latitude;
+  longitude = east (west ed digit) longitude;
+  digit = digit;
+}
+
+-- the numbers that stand in the columns of latitude and longitude for a place
+unfoldable pub latitudeFigure : Place → ℕ
+latitudeFigure p = natAbs (p .latitude)
+
+unfoldable pub longitudeFigure : Edition → Place → ℕ
+longitudeFigure ed p = east (west ed (p .digit)) (p .longitude)

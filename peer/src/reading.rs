@@ -12,7 +12,8 @@ pub enum Kind {
     IcedComputed,
 }
 
-/// Signed tenths of latitude, tenths of longitude east of Greenwich, and the digit of column 12 as it stands.
+/// Signed hundredths of a degree of latitude, hundredths of longitude east of Greenwich (0 to 35999), and the digit of
+/// column 12 as it stands.
 #[derive(Clone, Copy, PartialEq, Eq, Debug)]
 pub struct Place {
     pub latitude: i64,
@@ -51,12 +52,17 @@ pub const fn hemispheres(edition: Edition, digit: u64) -> Option<(bool, bool)> {
     }
 }
 
-/// Signed latitude and east longitude of digits in the hemispheres; 180.0 W is 180.0 E and 0.0 W is 0.0 E.
+/// Hundredths of a degree in a tenth: the columns count tenths and a place hundredths.
+const HUNDREDTHS: u64 = 10;
+
+/// Signed latitude and east longitude, in hundredths, of the tenths in the columns and the hemispheres; 180.0 W is
+/// 180.0 E and 0.0 W is 0.0 E.
 pub const fn position(hemispheres: (bool, bool), latitude: u64, longitude: u64) -> (i64, u64) {
     let (south, west) = hemispheres;
-    let signed = if south { -(latitude as i64) } else { latitude as i64 };
-    let east = if west { (3600 - longitude) % 3600 } else { longitude };
-    (signed, east)
+    let latitude = (latitude * HUNDREDTHS) as i64;
+    let longitude = longitude * HUNDREDTHS;
+    let east = if west { (36000 - longitude) % 36000 } else { longitude };
+    (if south { -latitude } else { latitude }, east)
 }
 
 /// The element that names the group an element shares its reading with; itself where it shares with none.
@@ -150,10 +156,11 @@ fn sign_of(value: i64, kind: Kind) -> Option<u8> {
 fn put_place(edition: Edition, place: Place, record: &mut [u8]) -> Option<()> {
     let (south, west) = hemispheres(edition, place.digit)?;
     let longitude = match (west, place.longitude) {
-        (true, 1..=3599) => 3600 - place.longitude,
+        (true, 1..=35999) => 36000 - place.longitude,
         (_, other) => other,
-    };
-    let latitude = place.latitude.unsigned_abs();
+    } / HUNDREDTHS;
+    let latitude = place.latitude.unsigned_abs() / HUNDREDTHS;
+    // What is left over of a tenth no columns say: the position is another then.
     if latitude > 900
         || longitude > 1800
         || position((south, west), latitude, longitude) != (place.latitude, place.longitude)

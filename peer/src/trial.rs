@@ -460,9 +460,13 @@ const TEXTS: [u64; 12] =
 const AMOUNTS: [i64; 19] =
     [0, 1, -1, 4, -5, 5, 10, -10, 99, -99, 100, -100, 999, -999, 1000, -1000, 1 << 32, i64::MIN, i64::MAX];
 const KINDS: [Kind; 4] = [Kind::Measured, Kind::Computed, Kind::IcedMeasured, Kind::IcedComputed];
-const LATITUDES: [i64; 9] = [0, 1, -1, 650, -650, 900, -900, 901, i64::MIN];
-const LONGITUDES: [u64; 16] =
-    [0, 1, 899, 900, 901, 1799, 1800, 1801, 2699, 2700, 2701, 3599, 3600, 3601, (1 << 32) + 900, u64::MAX];
+const LATITUDES: [i64; 13] = [0, 1, -1, 10, -10, 650, 6500, -6500, 9000, -9000, 9001, 9010, i64::MIN];
+const LONGITUDES: [u64; 18] =
+    [0, 1, 10, 900, 8990, 9000, 9010, 17990, 18000, 18010, 26990, 27000, 27010, 35990, 35999, 36000, WRAPS, u64::MAX];
+/// 90 degrees, and a bit that 32 bits do not hold.
+const WRAPS: u64 = (1 << 32) + 9000;
+/// Hundredths that no columns can say, added to a place that they do.
+const OFF_THE_TENTHS: [i64; 6] = [1, 4, 5, 6, 9, -1];
 const DIGITS: [u64; 12] = [0, 1, 2, 3, 4, 5, 6, 7, 8, 9, (1 << 32) + 1, u64::MAX];
 
 fn some_reading(chance: &mut Chance, element: usize, old: Reading) -> Reading {
@@ -499,6 +503,20 @@ fn some_reading(chance: &mut Chance, element: usize, old: Reading) -> Reading {
             digit: chance.pick(&DIGITS),
         }),
         _ => Reading::Missing,
+    }
+}
+
+/// A place off the tenths next to one that the columns say.
+fn off_the_tenths(chance: &mut Chance, place: Place) -> Place {
+    let more = chance.pick(&OFF_THE_TENTHS);
+    match chance.below(3) {
+        0 => Place { latitude: place.latitude.wrapping_add(more), ..place },
+        1 => Place { longitude: place.longitude.wrapping_add_signed(more), ..place },
+        _ => {
+            let other = chance.pick(&OFF_THE_TENTHS);
+            let latitude = place.latitude.wrapping_sub(other);
+            Place { latitude, longitude: place.longitude.wrapping_add_signed(more), ..place }
+        }
     }
 }
 
@@ -560,6 +578,14 @@ pub fn call(chance: &mut Chance, limits: &Limits, family: Family) -> Call {
                             readings[other - 1] = reading;
                         }
                     }
+                }
+            }
+            if let (Reading::Place(place), true) = (readings[5], chance.one_in(6)) {
+                let off = Reading::Place(off_the_tenths(chance, place));
+                // Now and then in one of the three elements alone.
+                match chance.below(12) {
+                    one @ 0..=2 => readings[5 + one] = off,
+                    _ => readings[5..8].fill(off),
                 }
             }
             if chance.one_in(8) {

@@ -6,7 +6,7 @@ use peer::plain::{self, TIES};
 use peer::recasting::plain_recast;
 use peer::report::all_readings;
 use peer::trial::{self, Chance, Family, Limits};
-use peer::{check, quick, recast, write, Answer};
+use peer::{check, quick, recast, write, Answer, Place, Reading};
 
 fn agree(record: &[u8]) {
     let answer = plain::check(record);
@@ -55,6 +55,31 @@ fn computed_tenths_come_often() {
             .count();
         assert!(free > 400, "{family:?}: {free}");
     }
+}
+
+#[test]
+fn places_off_the_tenths_come_often() {
+    let limits = Limits::new();
+    let mut chance = Chance::new(80);
+    // Writes that are refused for a place off the tenths and would not be for the next one on them: the latitude, the
+    // longitude, both.
+    let mut counts = [0; 3];
+    for _ in 0..100_000 {
+        let Call::Write(edition, _, mut readings) = trial::call(&mut chance, &limits, Family::Typical) else {
+            continue;
+        };
+        let Reading::Place(place) = readings[5] else { continue };
+        let on = Place { latitude: place.latitude / 10 * 10, longitude: place.longitude / 10 * 10, ..place };
+        if write(edition, &readings, &mut [0; LONGEST]) != Answer::refused(6, 6) {
+            continue;
+        }
+        readings[5..8].fill(Reading::Place(on));
+        if write(edition, &readings, &mut [0; LONGEST]).number == 0 {
+            let (north, east) = (on.latitude != place.latitude, on.longitude != place.longitude);
+            counts[2 * usize::from(north && east) + usize::from(east && !north)] += 1;
+        }
+    }
+    assert!(counts.iter().all(|&count| count > 100), "{counts:?}");
 }
 
 #[test]

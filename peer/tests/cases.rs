@@ -316,16 +316,26 @@ fn writes() {
         let place = Reading::Place(Place { latitude, longitude, digit });
         [(6, place), (7, place), (8, place)]
     };
-    assert_eq!(written(1, &place(650, 901, 3)), (7, 2));
-    assert_eq!(written(1, &place(-650, 901, 3)), (6, 6));
-    assert_eq!(written(1, &place(650, 2700, 1)), (0, 0));
-    assert_eq!(written(1, &place(650, 0, 0)), (0, 0));
-    assert_eq!(written(1, &place(650, 3600, 0)), (6, 6));
-    assert_eq!(written(4, &place(0, 1800, 5)), (0, 0));
-    assert_eq!(written(4, &place(0, 1799, 5)), (6, 6));
-    assert_eq!(written(4, &place(0, 1799, 2)), (6, 6));
-    assert_eq!(written(4, &place(650, 1799, 1)[..2]), (6, 6));
-    assert_eq!(written(4, &place(650, 1799, 1)[1..]), (6, 6));
+    assert_eq!(written(1, &place(6500, 9010, 3)), (7, 2));
+    assert_eq!(written(1, &place(-6500, 9010, 3)), (6, 6));
+    assert_eq!(written(1, &place(6500, 27000, 1)), (0, 0));
+    assert_eq!(written(1, &place(6500, 0, 0)), (0, 0));
+    assert_eq!(written(1, &place(6500, 36000, 0)), (6, 6));
+    assert_eq!(written(4, &place(0, 18000, 5)), (0, 0));
+    assert_eq!(written(4, &place(0, 17990, 5)), (6, 6));
+    assert_eq!(written(4, &place(0, 17990, 2)), (6, 6));
+    assert_eq!(written(4, &place(6500, 17990, 1)[..2]), (6, 6));
+    assert_eq!(written(4, &place(6500, 17990, 1)[1..]), (6, 6));
+    // Off the tenths, to either side, and next to the circle's end.
+    assert_eq!(written(4, &place(6500, 17990, 1)), (0, 0));
+    assert_eq!(written(4, &place(6501, 17990, 1)), (6, 6));
+    assert_eq!(written(4, &place(-6509, 17990, 3)), (6, 6));
+    assert_eq!(written(4, &place(6500, 17995, 1)), (6, 6));
+    assert_eq!(written(4, &place(6500, 35990, 7)), (0, 0));
+    assert_eq!(written(4, &place(6500, 35999, 7)), (6, 6));
+    assert_eq!(written(4, &place(6500, 18001, 7)), (6, 6));
+    assert_eq!(written(4, &place(1, 0, 1)), (6, 6));
+    assert_eq!(written(4, &place(0, 1, 7)), (6, 6));
 }
 
 #[test]

@@ -3,7 +3,7 @@
 use mathlib.Core.Path.{_≡_, refl}
 use Prim.Native.Nat.{ℕ}
 use mathlib.Core.List.{List, [], _∷_, map}
-use lib.IntN.{pos, negsuc}
+use lib.IntN.{ℤ, pos, negsuc, negℤ}
 use Rattle.text.specs.First.{firstFrom}
 use Rattle.text.specs.Bytes.{every, valueFrom, run}
 use Rattle.text.specs.Texts.{allows}
@@ -13,19 +13,19 @@ use Rattle.calendar.specs.Calendar.{leaps, lastDay}
 use Rattle.layout.specs.Page.{element, page, columns, startOf, textOf, legal}
 use Rattle.layout.specs.Records.{rowFrom, recordFrom}
 use Rattle.places.specs.Places.{south, west, octantFits, placeAt, latitudeFigure, longitudeFigure}
+use Rattle.places.specs.Digits.{suits, lowestDigit}
 use Rattle.ties.specs.Ties.{placeTie, octantTie, signTie, lastDigit, digitTie, windTie, latestDay, dayTie, tie, firstBroken}
 use Rattle.checking.specs.Check.{column, checkedIn, checked}
 use Rattle.reading.specs.declared.Kind.{Kind}
 use Rattle.reading.specs.declared.Kind.the-variants.{Measured, Computed}
 use Rattle.reading.specs.declared.Reading.{Reading}
-use Rattle.reading.specs.declared.Reading.the-variants.{Code, Amount}
+use Rattle.reading.specs.declared.Reading.the-variants.{Code, Amount, At}
 use Rattle.reading.specs.Readings.{plain, temperature, departure, placeOf, itemOf}
 use Rattle.reading.specs.Answers.{readAfter}
 use Rattle.spelling.specs.Same.{partsOf, same}
 use Rattle.spelling.specs.Spelled.{amountNumeral, placeNumeral, numeralFor, recordOf}
 use Rattle.writing.specs.Written as Written
 use Rattle.writing.proofs.Demand2TiesBroken.{missing, said, of-edition}
-use Rattle.places.specs.Digits.{suits, lowestDigit}
 use Rattle.meanings.specs.Meaning.{platformSense, senseOf}
 use Rattle.meanings.specs.Kept.{keeps, lostText}
 use Rattle.recasting.specs.Recast.{
@@ -81,6 +81,13 @@ dew-point kind = said 18 (Amount (pos 123) kind) (said 19 (Amount (pos 123) kind
 -- the readings of a record with a day of June and no year
 abbrev pub day-of-June : ℕ → List Reading
 day-of-June day = said 3 (Code 6) (said 4 (Code day) (of-edition 3 4))
+
+-- a place, and the readings of a record of edition 4 that has it
+abbrev pub at-place : ℤ → ℕ → ℕ → Reading
+at-place latitude longitude digit = At (record { latitude = latitude; longitude = longitude; digit = digit })
+
+abbrev pub with-place : Reading → List Reading
+with-place r = said 6 r (said 7 r (said 8 r (of-edition 3 4)))
 
 abbrev pub worked : List Worked
 worked =
@@ -163,6 +170,17 @@ worked =
     (write 4 (day-of-June 30) gives puts (at 6 "0630" edition4)) ∷
     (recast 1 (at 2 "20030631" edition4) gives unwritten 7 10) ∷
     (recast 1 (at 2 "20000229" edition4) gives recastAs [] (at 2 "20000229" edition1)) ∷
+    -- R-2: places in hundredths, south below zero; 180.0 W is 18000, 0.1 W is 35990, and 0.0 W is 0
+    (read 6 (position "3" "342" "0182" edition4) gives is (at-place (negℤ (pos 3420)) 1820 3)) ∷
+    (read 7 (position "6" "342" "1800" edition1) gives is (at-place (negℤ (pos 3420)) 18000 6)) ∷
+    (read 8 (position "7" "000" "0001" edition3) gives is (at-place (pos 0) 35990 7)) ∷
+    (read 6 (position "5" "900" "0000" edition4) gives is (at-place (negℤ (pos 9000)) 0 5)) ∷
+    -- what is read is written; a place off the tenths, or past the circle, is refusal 6 place 6
+    (write 4 (with-place (at-place (negℤ (pos 3420)) 1820 3)) gives puts (position "3" "342" "0182" edition4)) ∷
+    (write 4 (with-place (at-place (negℤ (pos 3425)) 1820 3)) gives unwritten 6 6) ∷
+    (write 4 (with-place (at-place (negℤ (pos 3420)) 1825 3)) gives unwritten 6 6) ∷
+    (write 4 (with-place (at-place (negℤ (pos 3420)) 35999 5)) gives unwritten 6 6) ∷
+    (write 4 (with-place (at-place (negℤ (pos 3420)) 36000 5)) gives unwritten 6 6) ∷
     []
 
 abbrev pub cases : List Case

@@ -9,9 +9,9 @@ use borrow.Author.Tests.{eq-eqb, eqb-true, not-true, not-false}
 use Rattle.text.proofs.First.{Looked, nowhere, lowest, looked}
 use Rattle.text.proofs.Ways.{and-first, and-second}
 use Rattle.layout.specs.declared.Edition.{Edition}
-use Rattle.signs.specs.Signed.{signed}
-use Rattle.places.specs.Places.{south, west, east, placeAt}
+use Rattle.places.specs.Places.{south, west, placeAt}
 use Rattle.places.specs.Digits.{sameSigned, samePlace, keepsTie, mayStand, suits, lowestDigit}
+use Rattle.places.proofs.PlaceLaws.{same-sides}
 use Rattle.places.proofs.DigitLaws.{unsuited, suited-at}
 use Rattle.places.proofs.Gives.{signed-equal, equal-signed, both, Gives, gives}
 
@@ -44,12 +44,12 @@ pub record Found (from to : Edition) (d latitude longitude : ℕ) : Type 0 where
 module _ (from to : Edition) (d latitude longitude : ℕ) where
   -- what gives the hemispheres of d suits
   suited : (g : Gives to (south from d) (west from d) longitude) → suits from to d latitude longitude (g .digit) ≡ true
-  unfolding suits placeAt
+  unfolding suits
   suited g =
       both
       (g .stands)
       (both
-      (numbers-same from to d (g .digit) latitude longitude (ap (λ (s : Bool). signed s latitude) (g .in-south), ap (λ (w : Bool). east w longitude) (g .in-west)))
+      (numbers-same from to d (g .digit) latitude longitude (same-sides from to d (g .digit) latitude longitude (g .in-south) (g .in-west)))
       (g .ties))
 
   -- what a look at the ten characters finds, where one of them suits

@@ -1,5 +1,5 @@
 -- What each way through the code of places says of the definitions, and that the figures of a place are those that gave it. Assumes nothing.
-use mathlib.Core.Path.{_≡_, refl, sym}
+use mathlib.Core.Path.{_≡_, refl, sym, ap, _∙_}
 use mathlib.Core.Bool.{Bool, true, false, not, true≢false}
 use Prim.Native.Nat.{ℕ, zero, suc, _-_, _%_, _<_, _≤_}
 use native.Mathlib.Nat.{mod-eq-of-lt}
@@ -9,7 +9,7 @@ use lib.IntN.{ℤ, natAbs}
 use Rattle.layout.specs.declared.Edition.{Edition}
 use Rattle.layout.specs.declared.Edition.the-variants.{One, Three, Four}
 use Rattle.signs.specs.Signed.{signed}
-use Rattle.places.specs.Places.{south, west, east, placeAt, latitudeFigure, longitudeFigure}
+use Rattle.places.specs.Places.{south, west, hundredths, tenths, east, placeAt, latitudeFigure, longitudeFigure}
 
 -- a digit past 9 gives no western hemisphere
 pub west-far : (ed : Edition) (d : ℕ) → 9 < d → false ≡ west ed d
@@ -27,14 +27,14 @@ module _ (w : Bool) (l m : ℕ) where
       by false h = f
       by true h = absurd (true≢false (sym h))
 
-  pub east-far : not w ≡ false → 3600 ≤ l → 0 ≡ east w l
+  pub east-far : not w ≡ false → 36000 ≤ l → 0 ≡ east w l
   east-far h k = by w h
     where
       by : (w : Bool) → not w ≡ false → 0 ≡ east w l
-      by true h = let z : 3600 - l ≡ 0 = omega arith in rw z
+      by true h = let z : 36000 - l ≡ 0 = omega arith in rw z
       by false h = absurd (true≢false h)
 
-  pub east-west : not w ≡ false → m ≡ (3600 - l) % 3600 → m ≡ east w l
+  pub east-west : not w ≡ false → m ≡ (36000 - l) % 36000 → m ≡ east w l
   east-west h f = by w h
     where
       by : (w : Bool) → not w ≡ false → m ≡ east w l
@@ -42,12 +42,16 @@ module _ (w : Bool) (l m : ℕ) where
       by false h = absurd (true≢false h)
 
 -- turned twice a longitude is what it was
-turned-back : (w : Bool) (l : ℕ) → l ≤ 1800 → east w (east w l) ≡ l
+turned-back : (w : Bool) (l : ℕ) → l ≤ 18000 → east w (east w l) ≡ l
 turned-back false l h = refl
 turned-back true zero h = refl
 turned-back true (suc l) h =
-    let back : 3600 - (3600 - suc l) ≡ suc l = omega arith in
-    rw (mod-eq-of-lt {n = 3600 - suc l} {m = 3600} (omega arith), back) (mod-eq-of-lt {n = suc l} {m = 3600} (omega arith))
+    let back : 36000 - (36000 - suc l) ≡ suc l = omega arith in
+    rw (mod-eq-of-lt {n = 36000 - suc l} {m = 36000} (omega arith), back) (mod-eq-of-lt {n = suc l} {m = 36000} (omega arith))
+
+-- tenths in hundredths and back again
+pub in-tenths : (n : ℕ) → tenths (hundredths n) ≡ n
+in-tenths n = omega arith
 
 -- the distance from zero of a number with its sign
 pub distance : (b : Bool) (n : ℕ) → natAbs (signed b n) ≡ n
@@ -57,7 +61,7 @@ distance false n = refl
 
 module _ (ed : Edition) (d la lo : ℕ) where
   -- by what the code found of the hemispheres
-  pub place-is : (s w : Bool) (m n q : ℕ) (a : ℤ) (o : ℕ) → s ≡ south ed d → w ≡ west ed d → m ≡ la → n ≡ lo → q ≡ d → a ≡ signed s m → o ≡ east w n →
+  pub place-is : (s w : Bool) (m n q : ℕ) (a : ℤ) (o : ℕ) → s ≡ south ed d → w ≡ west ed d → m ≡ hundredths la → n ≡ hundredths lo → q ≡ d → a ≡ signed s m → o ≡ east w n →
       record { latitude = a; longitude = o; digit = q } ≡ placeAt ed d la lo
   unfolding placeAt
   place-is s w m n q a o e f g h i j k = rw (j, k, e, f, g, h, i)
@@ -74,8 +78,14 @@ module _ (ed : Edition) (d la lo : ℕ) where
 
   pub latitude-of-place : latitudeFigure (placeAt ed d la lo) ≡ la
   unfolding placeAt latitudeFigure
-  latitude-of-place = distance (south ed d) la
+  latitude-of-place = ap tenths (distance (south ed d) (hundredths la)) ∙ in-tenths la
 
   pub longitude-of-place : lo ≤ 1800 → longitudeFigure ed (placeAt ed d la lo) ≡ lo
   unfolding placeAt longitudeFigure
-  longitude-of-place h = turned-back (west ed d) lo h
+  longitude-of-place h = ap tenths (turned-back (west ed d) (hundredths lo) (omega arith)) ∙ in-tenths lo
+
+-- digits of the same hemispheres give the same two numbers
+pub same-sides : (from to : Edition) (d c la lo : ℕ) → south from d ≡ south to c → west from d ≡ west to c →
+    ((placeAt from d la lo) .latitude ≡ (placeAt to c la lo) .latitude) × ((placeAt from d la lo) .longitude ≡ (placeAt to c la lo) .longitude)
+unfolding placeAt
+same-sides from to d c la lo e f = (rw e, rw f)

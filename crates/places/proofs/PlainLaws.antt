@@ -12,7 +12,7 @@ use Rattle.text.proofs.First.{same-first}
 use Rattle.layout.specs.declared.Edition.{Edition}
 use Rattle.layout.specs.declared.Edition.the-variants.{One, Three, Four}
 use Rattle.layout.specs.Page.{element, page}
-use Rattle.places.specs.Places.{south, west, octantFits, east, placeAt}
+use Rattle.places.specs.Places.{south, west, octantFits, hundredths, east, placeAt}
 use Rattle.places.specs.Digits.{keepsTie, mayStand, suits, lowestDigit}
 use Rattle.places.specs.Plain.{Plain, digitIn}
 use Rattle.places.proofs.DigitLaws.{off-equator}
@@ -52,17 +52,17 @@ only-one Four far true true = refl
 
 module _ (latitude longitude : ℕ) (p : Plain latitude longitude) where
   -- east and west of a plain place are two
-  turned : ((3600 - longitude) % 3600 ≡ 3600 - longitude) × (longitude < 3600 - longitude)
+  turned : ((36000 - hundredths longitude) % 36000 ≡ 36000 - hundredths longitude) × (hundredths longitude < 36000 - hundredths longitude)
   turned =
       let some : 1 ≤ longitude = omega (arith, p .off-meridian) in
       let low = p .below in
       (omega arith, omega arith)
 
-  easts : (v w : Bool) → eqb (east v longitude) (east w longitude) ≡ Bool·beq v w
-  easts false false = eq-eqb longitude longitude refl
-  easts true true = eq-eqb ((3600 - longitude) % 3600) ((3600 - longitude) % 3600) refl
-  easts false true = ne-eqb longitude ((3600 - longitude) % 3600) (λ q. omega (arith, q, turned .0, turned .1))
-  easts true false = ne-eqb ((3600 - longitude) % 3600) longitude (λ q. omega (arith, q, turned .0, turned .1))
+  easts : (v w : Bool) → eqb (east v (hundredths longitude)) (east w (hundredths longitude)) ≡ Bool·beq v w
+  easts false false = eq-eqb (hundredths longitude) (hundredths longitude) refl
+  easts true true = eq-eqb ((36000 - hundredths longitude) % 36000) ((36000 - hundredths longitude) % 36000) refl
+  easts false true = ne-eqb (hundredths longitude) ((36000 - hundredths longitude) % 36000) (λ q. omega (arith, q, turned .0, turned .1))
+  easts true false = ne-eqb ((36000 - hundredths longitude) % 36000) (hundredths longitude) (λ q. omega (arith, q, turned .0, turned .1))
 
   tie : (to : Edition) (c : ℕ) → keepsTie to c longitude ≡ sides to (ltb 900 longitude) c
   unfolding sides octantFits
@@ -77,7 +77,7 @@ module _ (latitude longitude : ℕ) (p : Plain latitude longitude) where
   module _ (from to : Edition) (d : ℕ) where
     suited : (c : ℕ) → suits from to d latitude longitude c ≡ fitting to (ltb 900 longitude) (south from d) (west from d) c
     unfolding suits fitting placeAt
-    suited c = rw (← (off-equator (south from d) (south to c) latitude (p .off-equator)), easts (west from d) (west to c), tie to c)
+    suited c = rw (← (off-equator (south from d) (south to c) (hundredths latitude) (λ q. p .off-equator (omega (arith, q)))), easts (west from d) (west to c), tie to c)
 
     pub plain-digit : digitIn to (ltb 900 longitude) (south from d) (west from d) ≡ lowestDigit from to d latitude longitude
     unfolding lowestDigit

@@ -1,5 +1,6 @@
 -- Places: what column 12, latitude and longitude say together, and what stands in those columns for a place. Assumes nothing.
-use Prim.Native.Nat.{ℕ, _-_, _%_}
+use Prim.Native.Nat.{ℕ, _-_, _*_, _/_, _%_}
+use mathlib.Core.Path.{_≡_}
 use mathlib.Core.Bool.{Bool, cond}
 use lib.Dec.{leb}
 use lib.IntN.{natAbs}
@@ -24,21 +25,37 @@ west Four digit = among 5 7 5 7 digit
 unfoldable pub octantFits : ℕ → ℕ → Bool
 octantFits octant longitude = cond (among 0 3 5 8 octant) (leb longitude 900) (leb 900 longitude)
 
--- east longitude, 0..3599; 180.0 W is 180.0 E. The same turns it back
+-- the unit: the columns count tenths of a degree, and a place hundredths, so many to a tenth
+abbrev pub unit : ℕ
+unit = 10
+
+abbrev pub hundredths : ℕ → ℕ
+hundredths tenths = tenths * unit
+
+-- the tenths in so many hundredths; what is left over no columns say
+abbrev pub tenths : ℕ → ℕ
+tenths hundredths = hundredths / unit
+
+-- east longitude in hundredths, 0..35999; 180.00 W is 180.00 E. The same turns it back
 abbrev pub east : Bool → ℕ → ℕ
-east isWest longitude = cond isWest ((3600 - longitude) % 3600) longitude
+east isWest longitude = cond isWest ((36000 - longitude) % 36000) longitude
 
 -- the place that a digit, a latitude and a longitude give, each the number that its columns say
 unfoldable pub placeAt : Edition → ℕ → ℕ → ℕ → Place
 placeAt ed digit latitude longitude = record {
-  latitude = signed (south ed digit) latitude;
-  longitude = east (west ed digit) longitude;
+  latitude = signed (south ed digit) (hundredths latitude);
+  longitude = east (west ed digit) (hundredths longitude);
   digit = digit;
 }
 
 -- the numbers that stand in the columns of latitude and longitude for a place
 unfoldable pub latitudeFigure : Place → ℕ
-latitudeFigure p = natAbs (p .latitude)
+latitudeFigure p = tenths (natAbs (p .latitude))
 
 unfoldable pub longitudeFigure : Edition → Place → ℕ
-longitudeFigure ed p = east (west ed (p .digit)) (p .longitude)
+longitudeFigure ed p = tenths (east (west ed (p .digit)) (p .longitude))
+
+-- a place that columns can say is a multiple of ten in both numbers
+pub record Tens (p : Place) : Type 0 where
+  pub latitude : natAbs (p .latitude) % 10 ≡ 0
+  pub longitude : p .longitude % 10 ≡ 0

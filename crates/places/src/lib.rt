@@ -7,10 +7,11 @@ pub mod column_12;
 
 use layout::Edition;
 ghost use mathlib.Core.Path.{_≡_};
-ghost use Rattle.places.specs.Places.{south, west, octantFits, east, placeAt, latitudeFigure, longitudeFigure};
+ghost use Prim.Native.Nat.{_^_, _<_};
+ghost use Rattle.places.specs.Places.{south, west, octantFits, hundredths, tenths, east, placeAt, latitudeFigure, longitudeFigure};
 
-// Where the ship was: tenths of latitude, negative in the south, tenths of east longitude from 0 to
-// 3599, and the digit of column 12 as it stands.
+// Where the ship was: hundredths of a degree of latitude, negative in the south, and of east longitude
+// from 0 to 35999, and the digit of column 12 as it stands.
 pub struct Place {
     pub latitude: i64,
     pub longitude: u64,
@@ -18,7 +19,7 @@ pub struct Place {
 }
 
 // Does the digit give the southern hemisphere?
-pub fn is_south(edition: Edition, digit: u32) -> bool
+fn is_south(edition: Edition, digit: u32) -> bool
     ensures { λ r. ⌜ r ≡ south edition digit ⌝ }
 {
     match edition {
@@ -29,7 +30,7 @@ pub fn is_south(edition: Edition, digit: u32) -> bool
 }
 
 // Does it give the western?
-pub fn is_west(edition: Edition, digit: u32) -> bool
+fn is_west(edition: Edition, digit: u32) -> bool
     ensures { λ r. ⌜ r ≡ west edition digit ⌝ }
 {
     match edition {
@@ -60,6 +61,31 @@ pub fn octant_fits(octant: u32, longitude: u32) -> bool
     }
 }
 
+// The same number, as wide as those of a place are.
+fn wide(n: u32) -> u64
+    ensures { λ r. ⌜ r ≡ n ⌝ }
+{
+    n as u64
+}
+
+// Hundredths of a degree in a tenth: the columns count tenths, and a place hundredths.
+const UNIT: u64 = 10;
+
+// A figure of the columns in hundredths.
+fn hundredths_of(tenths: u32) -> u64
+    ensures { λ r. ⌜ r ≡ hundredths tenths ⌝ }
+    ensures { λ r. ⌜ r < 2 ^ 63 ⌝ }
+{
+    wide(tenths) * UNIT
+}
+
+// The whole tenths in so many hundredths.
+fn tenths_of(hundredths: u64) -> u64
+    ensures { λ r. ⌜ r ≡ tenths hundredths ⌝ }
+{
+    hundredths / UNIT
+}
+
 // East longitude from the longitude of a hemisphere, and back again.
 fn east_of(is_west: bool, longitude: u64) -> u64
     ensures { λ r. ⌜ r ≡ east «is_west» longitude ⌝ }
@@ -67,17 +93,10 @@ fn east_of(is_west: bool, longitude: u64) -> u64
     if !is_west {
         return longitude;
     }
-    if 3600 <= longitude {
+    if 36000 <= longitude {
         return 0;
     }
-    (3600 - longitude) % 3600
-}
-
-// A figure of the columns, as wide as a number of a place is.
-fn wide(n: u32) -> u64
-    ensures { λ r. ⌜ r ≡ n ⌝ }
-{
-    n as u64
+    (36000 - longitude) % 36000
 }
 
 // The place that a digit and the figures of latitude and longitude give.
@@ -85,22 +104,22 @@ pub fn place_at(edition: Edition, digit: u32, latitude: u32, longitude: u32) -> 
     ensures { λ r. ⌜ r ≡ placeAt edition digit latitude longitude ⌝ }
 {
     Place {
-        latitude: signs::signed_of(is_south(edition, digit), wide(latitude)),
-        longitude: east_of(is_west(edition, digit), wide(longitude)),
+        latitude: signs::signed_of(is_south(edition, digit), hundredths_of(latitude)),
+        longitude: east_of(is_west(edition, digit), hundredths_of(longitude)),
         digit: wide(digit),
     }
 }
 
-// The figure of latitude that stands in the columns for a place.
+// The figure of latitude that stands in the columns for a place: its whole tenths.
 pub fn latitude_figure(place: Place) -> u64
     ensures { λ r. ⌜ r ≡ latitudeFigure place ⌝ }
 {
-    signs::magnitude(place.latitude)
+    tenths_of(signs::magnitude(place.latitude))
 }
 
 // The figure of longitude, by the hemisphere that the place's digit gives.
 pub fn longitude_figure(edition: Edition, place: Place) -> u64
     ensures { λ r. ⌜ r ≡ longitudeFigure edition place ⌝ }
 {
-    east_of(gives_west(edition, place.digit), place.longitude)
+    tenths_of(east_of(gives_west(edition, place.digit), place.longitude))
 }

@@ -5,7 +5,7 @@
 //     I K code V
 //     I K text V
 //     I K amount V KIND          measured, computed, iced measured or iced computed
-//     I K place LAT LON DIGIT    the latitude is negative in the south
+//     I K place LAT LON DIGIT    in hundredths of a degree, the latitude negative in the south
 //     I call sign TEXT           where the record has one
 //     I written same             where the record written from these readings is the record read,
 //                                and `other` where it is not

@@ -39,7 +39,7 @@ of-edition format edition = said 1 (Code format) (said 65 (Code edition) (missin
 
 -- an octant that reaches to 90 degrees west, at 100 degrees west
 abbrev pub far-west : Reading
-far-west = At (record { latitude = pos 100; longitude = 2600; digit = 0 })
+far-west = At (record { latitude = pos 1000; longitude = 26000; digit = 0 })
 
 -- readings that could be written but for a tie, one case for each tie between readings
 abbrev pub broken-each : List Outcome

@@ -1,4 +1,4 @@
--- The laws that the functions of this crate cite, and the promises of demand 2 about writing.
+-- The laws that the functions of this crate cite, and the promises of demands 1 and 2 and of request 2 about writing.
 pub mod WriteLaws
 pub mod EachLaws
 pub mod DoneLaws
@@ -10,3 +10,4 @@ pub mod Demand2Ties
 pub mod Demand2TiesBroken
 pub mod GivableLaws
 pub mod Demand2Refused
+pub mod Request2Written

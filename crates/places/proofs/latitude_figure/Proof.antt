@@ -1,5 +1,5 @@
 -- `places::latitude_figure` meets its contract. Assumes nothing.
-use Rattle.places.specs.Places.{latitudeFigure}
+use Rattle.places.specs.Places.{tenths, latitudeFigure}
 use Rattle.signs.proofs.Signs.{itself}
 use borrow.Author.Needs.{needs}
 use lib.IntN.{natAbs}
@@ -10,9 +10,14 @@ use Rattle.places.proofs.latitude_figure.Tie as tie
 magnitude-requires : tie.Need-magnitude-requires
 magnitude-requires c κs = search needs
 
+tenths-of-requires : tie.Need-tenths-of-requires
+tenths-of-requires c κs = search needs
+
 returns : tie.Need-returns
 unfolding latitudeFigure
-returns c = c .magnitude .ensures .0 ∙ ap natAbs (itself (c .before .before .args .place .latitude) (record { sfits = c .before .struct-told .given .0 .1 }))
+returns c =
+    let far = c .before in
+    c .tenths-of .ensures ∙ ap tenths (far .magnitude .ensures .0 ∙ ap natAbs (itself (far .before .before .args .place .latitude) (record { sfits = far .before .struct-told .given .0 .1 })))
 
 pub latitude-figure-spec : {M : Type 1} → statement M
-latitude-figure-spec = tie.close (tie.spec magnitude-requires returns)
+latitude-figure-spec = tie.close (tie.spec magnitude-requires tenths-of-requires returns)

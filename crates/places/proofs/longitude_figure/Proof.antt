@@ -1,5 +1,5 @@
 -- `places::longitude_figure` meets its contract. Assumes nothing.
-use Rattle.places.specs.Places.{east, longitudeFigure}
+use Rattle.places.specs.Places.{tenths, east, longitudeFigure}
 use borrow.Author.Needs.{needs}
 use mathlib.Core.Bool.{Bool}
 use mathlib.Core.Path.{_∙_, ap}
@@ -12,9 +12,14 @@ gives-west-requires c κs = search needs
 east-of-requires : tie.Need-east-of-requires
 east-of-requires c κs = search needs
 
+tenths-of-requires : tie.Need-tenths-of-requires
+tenths-of-requires c κs = search needs
+
 returns : tie.Need-returns
 unfolding longitudeFigure
-returns c = c .east-of .ensures ∙ ap (λ (b : Bool). east b (c .before .before .args .place .longitude)) (c .before .gives-west .ensures)
+returns c =
+    let turned = c .before in
+    c .tenths-of .ensures ∙ ap tenths (turned .east-of .ensures ∙ ap (λ (b : Bool). east b (turned .before .before .args .place .longitude)) (turned .before .gives-west .ensures))
 
 pub longitude-figure-spec : {M : Type 1} → statement M
-longitude-figure-spec = tie.close (tie.spec gives-west-requires east-of-requires returns)
+longitude-figure-spec = tie.close (tie.spec gives-west-requires east-of-requires tenths-of-requires returns)

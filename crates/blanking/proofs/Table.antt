@@ -1,6 +1,6 @@
 -- Which byte of an element of one column is lost: antt computes over the page, for each two editions, that it is lost exactly where the code loses it. Assumes nothing.
-use mathlib.Core.Path.{_≡_, refl, sym}
-use mathlib.Core.Bool.{Bool, true, false, not, _&&_, _||_, Bool·beq, true≢false}
+use mathlib.Core.Path.{_≡_, refl}
+use mathlib.Core.Bool.{Bool, true, not, _&&_, _||_, Bool·beq}
 use mathlib.Core.List.{[], _∷_}
 use Prim.Native.Nat.{ℕ, _-_, _≤_}
 use native.Mathlib.Omega.{arith}
@@ -10,7 +10,7 @@ use Rattle.text.specs.Bytes.{every, between, valueFrom, run}
 use Rattle.text.specs.Texts.{allows}
 use Rattle.text.specs.First.{firstFrom}
 use Rattle.text.proofs.First.{all-of-none}
-use Rattle.text.proofs.Ways.{and-first, and-second}
+use Rattle.text.proofs.Ways.{and-first, and-second, imply, beq-true}
 use Rattle.layout.specs.declared.Edition.{Edition}
 use Rattle.layout.specs.declared.Edition.the-variants.{One, Three, Four}
 use Rattle.layout.specs.Page.{page, element, widthOf, legalText}
@@ -62,16 +62,6 @@ all-fit Four One = refl
 all-fit Four Three = refl
 all-fit Four Four = refl
 
-imply : (a b : Bool) → (not a || b) ≡ true → a ≡ true → b ≡ true
-imply true b e h = e
-imply false b e h = absurd (true≢false (sym h))
-
-pub same-as : (a b : Bool) → Bool·beq a b ≡ true → a ≡ b
-same-as true true e = refl
-same-as true false e = sym e
-same-as false true e = e
-same-as false false e = refl
-
 module _ (from to : Edition) (e : ℕ) (l : 1 ≤ e) (h : e ≤ 101) (a : alone e ≡ true) where
   fit : (eqb (widthOf e) 1 && eqb (firstFrom (agrees from to e) 32 95) 0) ≡ true
   unfolding fits
@@ -84,4 +74,4 @@ module _ (from to : Edition) (e : ℕ) (l : 1 ≤ e) (h : e ≤ 101) (a : alone 
   unfolding agrees
   alone-lost b low high legal =
       let each = all-of-none (agrees from to e) 32 95 (omega arith) (eqb-true _ _ (and-second (eqb (widthOf e) 1) _ fit)) b low (omega arith) in
-      same-as _ _ (imply (legalText from e (b ∷ [])) _ each legal)
+      beq-true _ _ (imply (legalText from e (b ∷ [])) _ each legal)

@@ -10,3 +10,4 @@ pub mod Parts
 pub mod RecordLaws
 pub mod Alike
 pub mod Lacking
+pub mod Holding

@@ -1,46 +1,41 @@
 -- What each way through the code of column 12 says of the definitions. Assumes nothing.
 use mathlib.Core.Path.{_≡_, refl, sym, ap, _∙_}
-use mathlib.Core.Bool.{Bool, true, false, not, Bool·beq, true≢false}
+use mathlib.Core.Bool.{Bool, true, false, not, _&&_, Bool·beq, true≢false}
+use mathlib.Core.List.{List, [], _∷_}
 use Prim.Native.Nat.{ℕ, zero, suc, _+_, _-_, _*_, _≤_}
 use native.Mathlib.Omega.{arith}
 use borrow.Author.Tests.{eq-eqb, ne-eqb, le-leb}
 use lib.Dec.{eqb}
+use lib.IntN.{natAbs}
 use Rattle.text.specs.First.{firstFrom}
-use Rattle.text.specs.Bytes.{either, every, valueFrom}
+use Rattle.text.specs.Bytes.{either, every, digits, number, valueFrom}
 use Rattle.text.specs.Texts.{among, allows}
 use Rattle.text.proofs.First.{end, off, on}
 use Rattle.layout.specs.declared.Edition.{Edition}
 use Rattle.layout.specs.declared.Edition.the-variants.{One, Three, Four}
-use Rattle.layout.specs.Page.{element, page}
-use lib.IntN.{natAbs}
+use Rattle.layout.specs.Page.{element, page, textsOf}
 use Rattle.signs.specs.Signed.{signed, negative}
 use Rattle.places.specs.declared.Place.{Place}
 use Rattle.places.specs.Places.{south, west, placeAt}
 use Rattle.places.specs.Digits.{sameSigned, onePlace, samePlace, keepsTie, mayStand, isFirst, crosses, suits, lowestDigit}
 
--- which digits may stand in column 12
-module _ (digit : ℕ) (h : digit ≤ 9) where
-  low : 48 ≤ 48 + digit
-  low = omega arith
+-- which digits may stand in column 12: octants in edition 1, quadrants in the others
+abbrev pub stands : Edition → ℕ → Bool
+stands One = either 0 3 5 8
+stands Three = among 1 3 5 7
+stands Four = among 1 3 5 7
 
-  high : 48 + digit ≤ 57
-  high = omega arith
+pub column-texts : (ed : Edition) (t : List ℕ) → allows (textsOf ed 6) t ≡ (digits t && stands ed (number t))
+unfolding element page allows
+column-texts One t = refl
+column-texts Three t = refl
+column-texts Four t = refl
 
-  said : 0 * 10 + (48 + digit - 48) ≡ digit
-  said = omega arith
-
-  pub octant-stands : either 0 3 5 8 digit ≡ mayStand One digit
-  unfolding allows element page every valueFrom
-  octant-stands = rw (le-leb 48 (48 + digit) low, le-leb (48 + digit) 57 high, said)
-
-  pub quadrant-stands : among 1 3 5 7 digit ≡ mayStand Three digit
-  unfolding allows element page every valueFrom
-  quadrant-stands = rw (le-leb 48 (48 + digit) low, le-leb (48 + digit) 57 high, said)
-
-  -- quadrants are the same in editions 3 and 4
-  pub quadrant-stands-in-4 : among 1 3 5 7 digit ≡ mayStand Four digit
-  unfolding element page
-  quadrant-stands-in-4 = quadrant-stands
+pub digit-stands : (ed : Edition) (digit : ℕ) → digit ≤ 9 → mayStand ed digit ≡ stands ed digit
+unfolding every valueFrom
+digit-stands ed digit h =
+    let said : 0 * 10 + (48 + digit - 48) ≡ digit = omega arith in
+    column-texts ed ((48 + digit) ∷ []) ∙ rw (le-leb 48 (48 + digit) (omega arith), le-leb (48 + digit) 57 (omega arith), said)
 
 -- the edition that an arm was taken at
 pub stands-at : {a b : Edition} (digit : ℕ) → a ≡ b → mayStand b digit ≡ mayStand a digit
@@ -92,18 +87,26 @@ module _ (from to : Edition) (d latitude longitude c : ℕ) (x : Bool) (e : x �
 pub crossing : (from to : Edition) (x y z : Bool) → x ≡ isFirst from → y ≡ isFirst to → z ≡ Bool·beq x y → not z ≡ crosses from to
 crossing from to x y z e f g = rw (g, e, f)
 
--- editions between which column 12 stays take a digit alike
-pub alike-places : (from to : Edition) (d la lo : ℕ) → crosses from to ≡ false → placeAt to d la lo ≡ placeAt from d la lo
+-- what holds of each two editions between which column 12 stays
+pub not-crossed : (P : Edition → Edition → Type 0) → P One One → P Three Three → P Three Four → P Four Three → P Four Four → (from to : Edition) → crosses from to ≡ false → P from to
+not-crossed P a b c d e One One h = a
+not-crossed P a b c d e One Three h = absurd (true≢false h)
+not-crossed P a b c d e One Four h = absurd (true≢false h)
+not-crossed P a b c d e Three One h = absurd (true≢false h)
+not-crossed P a b c d e Three Three h = b
+not-crossed P a b c d e Three Four h = c
+not-crossed P a b c d e Four One h = absurd (true≢false h)
+not-crossed P a b c d e Four Three h = d
+not-crossed P a b c d e Four Four h = e
+
+-- they take a digit alike, and have the same digits
+pub alike-places : (d la lo : ℕ) (from to : Edition) → crosses from to ≡ false → placeAt to d la lo ≡ placeAt from d la lo
 unfolding placeAt south west
-alike-places One One d la lo h = refl
-alike-places One Three d la lo h = absurd (true≢false h)
-alike-places One Four d la lo h = absurd (true≢false h)
-alike-places Three One d la lo h = absurd (true≢false h)
-alike-places Three Three d la lo h = refl
-alike-places Three Four d la lo h = refl
-alike-places Four One d la lo h = absurd (true≢false h)
-alike-places Four Three d la lo h = refl
-alike-places Four Four d la lo h = refl
+alike-places d la lo = not-crossed (λ from to. placeAt to d la lo ≡ placeAt from d la lo) refl refl refl refl refl
+
+pub same-digits : (from to : Edition) → crosses from to ≡ false → textsOf from 6 ≡ textsOf to 6
+unfolding element page
+same-digits = not-crossed (λ from to. textsOf from 6 ≡ textsOf to 6) refl refl refl refl refl
 
 -- the loop over the characters '0' to '9': none before b suits; b says the digit k, and x is what the code found of k
 module _ (from to : Edition) (d latitude longitude : ℕ) where

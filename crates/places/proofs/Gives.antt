@@ -1,35 +1,21 @@
 -- Two signed numbers are equal exactly where signs and distances from zero are; and each edition has a digit for any two hemispheres and any longitude. Assumes nothing.
 use mathlib.Core.Path.{_≡_, refl, sym, ap, _∙_}
-use mathlib.Core.Bool.{Bool, true, false, _&&_, Bool·beq, true≢false}
+use mathlib.Core.Bool.{Bool, true, false, _&&_, Bool·beq}
 use Prim.Native.Nat.{ℕ, _≤_}
 use native.Mathlib.Omega.{arith}
 use borrow.Author.Tests.{eq-eqb, eqb-true, le-leb, leb-false}
 use lib.Dec.{eqb, leb, lit≤}
-use lib.IntN.{ℤ, pos, negsuc, natAbs}
+use lib.IntN.{ℤ, natAbs}
 use Rattle.text.specs.Bytes.{every, valueFrom}
 use Rattle.text.specs.Texts.{allows}
-use Rattle.text.proofs.Ways.{and-first, and-second}
+use Rattle.text.proofs.Ways.{and-first, and-second, beq-true, beq-same}
 use Rattle.layout.specs.declared.Edition.{Edition}
 use Rattle.layout.specs.declared.Edition.the-variants.{One, Three, Four}
 use Rattle.layout.specs.Page.{element, page}
 use Rattle.signs.specs.Signed.{signed, negative}
+use Rattle.signs.proofs.Signs.{rejoined}
 use Rattle.places.specs.Places.{south, west, octantFits}
 use Rattle.places.specs.Digits.{sameSigned, keepsTie, mayStand}
-
--- a number is its sign and its distance from zero
-rejoined : (a : ℤ) → signed (negative a) (natAbs a) ≡ a
-rejoined (pos n) = refl
-rejoined (negsuc n) = refl
-
-beq-true : (x y : Bool) → Bool·beq x y ≡ true → x ≡ y
-beq-true true true e = refl
-beq-true true false e = absurd (true≢false (sym e))
-beq-true false true e = absurd (true≢false (sym e))
-beq-true false false e = refl
-
-beq-same : (x : Bool) → Bool·beq x x ≡ true
-beq-same true = refl
-beq-same false = refl
 
 pub signed-equal : (a b : ℤ) → sameSigned a b ≡ true → a ≡ b
 signed-equal a b e =

@@ -5,10 +5,11 @@ use Prim.Native.Nat.{ℕ, zero, suc, _-_, _%_, _<_, _≤_}
 use native.Mathlib.Nat.{mod-eq-of-lt}
 use native.Mathlib.Omega.{arith}
 use borrow.Author.Tests.{ne-eqb}
-use lib.IntN.{ℤ, natAbs}
+use lib.IntN.{ℤ}
 use Rattle.layout.specs.declared.Edition.{Edition}
 use Rattle.layout.specs.declared.Edition.the-variants.{One, Three, Four}
 use Rattle.signs.specs.Signed.{signed}
+use Rattle.signs.proofs.Signs.{distance}
 use Rattle.places.specs.Places.{south, west, hundredths, tenths, east, placeAt, latitudeFigure, longitudeFigure}
 
 -- a digit past 9 gives no western hemisphere
@@ -52,12 +53,6 @@ turned-back true (suc l) h =
 -- tenths in hundredths and back again
 pub in-tenths : (n : ℕ) → tenths (hundredths n) ≡ n
 in-tenths n = omega arith
-
--- the distance from zero of a number with its sign
-pub distance : (b : Bool) (n : ℕ) → natAbs (signed b n) ≡ n
-distance true zero = refl
-distance true (suc n) = refl
-distance false n = refl
 
 module _ (ed : Edition) (d la lo : ℕ) where
   -- by what the code found of the hemispheres

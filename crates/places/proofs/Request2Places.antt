@@ -5,8 +5,8 @@ use Prim.Native.Nat.{ℕ, _%_, _≤_, _<_}
 use native.Mathlib.Omega.{arith}
 use lib.IntN.{natAbs}
 use Rattle.layout.specs.declared.Edition.{Edition}
+use Rattle.signs.proofs.Signs.{distance}
 use Rattle.places.specs.Places.{south, west, hundredths, east, placeAt, Tens}
-use Rattle.places.proofs.PlaceLaws.{distance}
 
 -- longitude from the east
 turned-tens : (w : Bool) (l : ℕ) → east w (hundredths l) % 10 ≡ 0

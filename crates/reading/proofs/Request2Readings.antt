@@ -1,20 +1,19 @@
 -- Request 2: a place read from an accepted record is a multiple of ten in both numbers, and within the limits of its columns. Assumes nothing.
 use mathlib.Core.Path.{_≡_, refl, sym, _∙_}
-use mathlib.Core.Bool.{Bool, true, false, cond, _&&_, _||_}
+use mathlib.Core.Bool.{Bool, true, false, cond, _||_}
 use mathlib.Core.List.{List}
 use Prim.Native.Nat.{ℕ, _≤_}
 use native.Mathlib.Omega.{arith}
 use lib.Dec.{lit≤}
 use lib.IntN.{natAbs}
-use Rattle.text.specs.Bytes.{blank, digits, number}
+use Rattle.text.specs.Bytes.{blank, number}
 use Rattle.text.specs.declared.Texts.the-variants.{Within}
-use Rattle.text.specs.Texts.{among, allows}
-use Rattle.text.proofs.Ranges.{greatest}
-use Rattle.text.proofs.Ways.{and-second}
+use Rattle.text.specs.Texts.{among}
 use Rattle.layout.specs.declared.Edition.{Edition}
-use Rattle.layout.specs.Page.{element, page, textOf, textsOf, mayBeBlank, legal}
+use Rattle.layout.specs.Page.{element, page, textOf, textsOf}
 use Rattle.layout.proofs.Beyond.{last-above}
 use Rattle.layout.proofs.Elements.{in-each}
+use Rattle.layout.proofs.Holding.{within, most}
 use Rattle.places.specs.declared.Place.{Place}
 use Rattle.places.specs.Places.{placeAt, Tens}
 use Rattle.places.proofs.Request2Places.{place-tens, latitude-most, longitude-most}
@@ -44,27 +43,17 @@ gives-tens ed digit latitude longitude p = by (blank digit || blank latitude || 
     by true e = let z : _≡_ {A = ℕ} 0 1 = cc in absurd (omega arith)
     by false e = let same : placeAt ed (number digit) (number latitude) (number longitude) ≡ p = cc in rw (← same) (place-tens ed (number digit) (number latitude) (number longitude))
 
--- the number in columns that are there and are legal
-in-columns : (ed : Edition) (xs : List ℕ) (e most : ℕ) → textsOf ed e ≡ Within 0 most → legal ed xs e ≡ true → blank (textOf e xs) ≡ false → number (textOf e xs) ≤ most
-unfolding legal allows
-in-columns ed xs e most f h b =
-    let h′ : ((mayBeBlank e && blank (textOf e xs)) || allows (textsOf ed e) (textOf e xs)) ≡ true = h in
-    greatest 0 most _ (and-second (digits (textOf e xs)) _ (by (mayBeBlank e) _ (rw (b, f) at h′)))
-  where
-    by : (m x : Bool) → ((m && false) || x) ≡ true → x ≡ true
-    by true x k = k
-    by false x k = k
-
 module _ (ed : Edition) (xs : List ℕ) (a : Acceptable ed xs) where
   abbrev held : Place
   held = placeAt ed (number (textOf 6 xs)) (number (textOf 7 xs)) (number (textOf 8 xs))
 
-  lawful : (e : ℕ) → 1 ≤ e → e ≤ 8 → legal ed xs e ≡ true
-  lawful e l h = a .lawful e l (omega (arith, last-above ed))
+  -- the number in columns that are there
+  at-most : (e n : ℕ) → 1 ≤ e → e ≤ 8 → textsOf ed e ≡ Within 0 n → blank (textOf e xs) ≡ false → number (textOf e xs) ≤ n
+  at-most e n l h f b = most 0 n (textOf e xs) (within ed xs 0 n e f (a .lawful e l (omega (arith, last-above ed)))) b
 
-  within : (p : Place) → placeOf ed (textOf 6 xs) (textOf 7 xs) (textOf 8 xs) ≡ At p → (natAbs (p .latitude) ≤ 9000) × (p .longitude ≤ 35990)
+  limits : (p : Place) → placeOf ed (textOf 6 xs) (textOf 7 xs) (textOf 8 xs) ≡ At p → (natAbs (p .latitude) ≤ 9000) × (p .longitude ≤ 35990)
   unfolding placeOf element page
-  within p = by (blank (textOf 6 xs)) (blank (textOf 7 xs)) (blank (textOf 8 xs)) refl refl
+  limits p = by (blank (textOf 6 xs)) (blank (textOf 7 xs)) (blank (textOf 8 xs)) refl refl
     where
       by : (x y z : Bool) → blank (textOf 7 xs) ≡ y → blank (textOf 8 xs) ≡ z → cond (x || y || z) Missing (At held) ≡ At p → (natAbs (p .latitude) ≤ 9000) × (p .longitude ≤ 35990)
       by true y z g h e = let n : _≡_ {A = ℕ} 0 1 = cc in absurd (omega arith)
@@ -72,9 +61,9 @@ module _ (ed : Edition) (xs : List ℕ) (a : Acceptable ed xs) where
       by false false true g h e = let n : _≡_ {A = ℕ} 0 1 = cc in absurd (omega arith)
       by false false false g h e =
           let same : held ≡ p = cc in
-          let most = in-columns ed xs 7 900 (in-each ed 7 (Within 0 900) refl refl refl) (lawful 7 (lit≤ tt) (lit≤ tt)) g in
-          let far = in-columns ed xs 8 1800 (in-each ed 8 (Within 0 1800) refl refl refl) (lawful 8 (lit≤ tt) (lit≤ tt)) h in
-          rw (← same) (latitude-most ed (number (textOf 6 xs)) (number (textOf 7 xs)) (number (textOf 8 xs)) most, longitude-most ed (number (textOf 6 xs)) (number (textOf 7 xs)) (number (textOf 8 xs)) (omega arith))
+          let north = at-most 7 900 (lit≤ tt) (lit≤ tt) (in-each ed 7 (Within 0 900) refl refl refl) g in
+          let far = at-most 8 1800 (lit≤ tt) (lit≤ tt) (in-each ed 8 (Within 0 1800) refl refl refl) h in
+          rw (← same) (latitude-most ed (number (textOf 6 xs)) (number (textOf 7 xs)) (number (textOf 8 xs)) north, longitude-most ed (number (textOf 6 xs)) (number (textOf 7 xs)) (number (textOf 8 xs)) (omega arith))
 
 -- Every accepted record, each of the elements 6 to 8 that is not missing.
 pub place-read : (ed : Edition) (xs : List ℕ) → checked xs ≡ Accepted ed → (e : ℕ) → among 6 7 8 8 e ≡ true → (p : Place) → readOf xs e ≡ Reads (At p) → ReadPlace p
@@ -83,5 +72,5 @@ place-read ed xs accepted e k p r =
     let high = among-below 8 6 7 8 8 e (lit≤ tt) (lit≤ tt) (lit≤ tt) (lit≤ tt) k in
     let as-place = sym (reads-place ed xs accepted e (omega arith) (omega (arith, last-above ed)) k) ∙ r in
     let gives : placeOf ed (textOf 6 xs) (textOf 7 xs) (textOf 8 xs) ≡ At p = cc in
-    let limits = within ed xs (accepted-exactly xs ed .0 accepted) p gives in
-    record { tens = gives-tens ed (textOf 6 xs) (textOf 7 xs) (textOf 8 xs) p gives; latitude = limits .0; longitude = limits .1 }
+    let at = limits ed xs (accepted-exactly xs ed .0 accepted) p gives in
+    record { tens = gives-tens ed (textOf 6 xs) (textOf 7 xs) (textOf 8 xs) p gives; latitude = at .0; longitude = at .1 }

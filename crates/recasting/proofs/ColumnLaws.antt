@@ -1,15 +1,14 @@
 -- Column 12 of the recast record: it stays, or it is the lowest digit with the same place that keeps tie 2. Assumes nothing.
 use mathlib.Core.Path.{_≡_, refl, sym, ap, _∙_}
 use mathlib.Core.Logic.{_⊎_, inl, inr}
-use mathlib.Core.Bool.{Bool, true, false, true≢false}
+use mathlib.Core.Bool.{Bool, true, false}
 use mathlib.Core.List.{List, [], _∷_}
 use Prim.Native.Nat.{ℕ}
 use native.Mathlib.Omega.{arith}
 use lib.ListN.{getD}
 use Rattle.text.specs.Bytes.{blank}
 use Rattle.layout.specs.declared.Edition.{Edition}
-use Rattle.layout.specs.declared.Edition.the-variants.{One, Three, Four}
-use Rattle.layout.specs.Page.{page, element, textOf, textsOf}
+use Rattle.layout.specs.Page.{textOf}
 use Rattle.layout.proofs.Beyond.{last-above}
 use Rattle.layout.proofs.RecordLaws.{begins}
 use Rattle.checking.specs.Acceptable.{Acceptable}
@@ -18,19 +17,6 @@ use Rattle.recasting.proofs.Request9Places.{standing, digit-there, HasD
 use Rattle.recasting.specs.Recast.{hemisphere, recastText}
 use Rattle.recasting.proofs.PlaceLaws.{six, chosen, by-tests}
 use Rattle.recasting.proofs.ResultLaws.{result, result-text}
-
--- editions between which column 12 stays have the same texts there
-pub same-digits : (from to : Edition) → crosses from to ≡ false → textsOf from 6 ≡ textsOf to 6
-unfolding element page
-same-digits One One h = refl
-same-digits One Three h = absurd (true≢false h)
-same-digits One Four h = absurd (true≢false h)
-same-digits Three One h = absurd (true≢false h)
-same-digits Three Three h = refl
-same-digits Three Four h = refl
-same-digits Four One h = absurd (true≢false h)
-same-digits Four Three h = refl
-same-digits Four Four h = refl
 
 module _ (from to : Edition) (xs : List ℕ) (a : Acceptable from xs) where
   -- what has become of column 12

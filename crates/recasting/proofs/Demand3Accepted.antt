@@ -16,17 +16,18 @@ use Rattle.layout.specs.Editions.{lastOf}
 use Rattle.layout.specs.Page.{page, element, textOf, textsOf, mayBeBlank, legalText, legal}
 use Rattle.layout.proofs.Beyond.{last-above}
 use Rattle.layout.proofs.Elements.{blank-legal, allowed-legal}
+use Rattle.places.proofs.DigitLaws.{same-digits}
 use Rattle.checking.specs.declared.Answer.the-variants.{Accepted}
 use Rattle.checking.specs.Check.{checked}
 use Rattle.checking.specs.Acceptable.{Acceptable}
 use Rattle.checking.proofs.Demand2Acceptance.{accepted-exactly}
 use Rattle.checking.proofs.LegalLaws.{legal-record}
-use Rattle.recasting.proofs.Request9Places.{standing}
 use Rattle.meanings.specs.Meaning.{senseOf, sameSense}
 use Rattle.meanings.specs.Kept.{keeps, lostText, lostAt}
 use Rattle.recasting.specs.Recast.{digitOf, recastText, recastRecord}
+use Rattle.recasting.proofs.Request9Places.{standing}
 use Rattle.recasting.proofs.ResultLaws.{Plain, result, result-long, result-text, as-it-was, lost-blank, new-blank}
-use Rattle.recasting.proofs.ColumnLaws.{same-digits, Column, stays, moves, column}
+use Rattle.recasting.proofs.ColumnLaws.{Column, stays, moves, column}
 use Rattle.recasting.proofs.NeverLaws.{same}
 use Rattle.recasting.proofs.TiedLaws.{ties-kept}
 

@@ -22,13 +22,13 @@ use Rattle.ties.specs.Ties.{there}
 use Rattle.checking.specs.Acceptable.{Acceptable}
 use Rattle.reading.specs.declared.Reading.the-variants.{Missing, At}
 use Rattle.reading.specs.Readings.{placeOf, temperature, lead, itemOf}
-use Rattle.recasting.proofs.Request9Places.{standing, HasDigit}
 use Rattle.meanings.specs.declared.Sense.{Sense}
 use Rattle.meanings.specs.declared.Sense.the-variants.{Alike}
 use Rattle.meanings.specs.Meaning.{senseOf, senseNumber, sameSense, withoutDigit, shares, Meaning, reads, says, meaningOf}
 use Rattle.meanings.specs.Kept.{keeps, lostText, lostAt}
 use Rattle.meanings.specs.Lost.{Expressible, Lost}
 use Rattle.meanings.proofs.SenseLaws.{same-sense}
+use Rattle.recasting.proofs.Request9Places.{standing, HasDigit}
 use Rattle.recasting.proofs.ResultLaws.{Plain, result, result-long, result-beyond, as-it-was, lost-blank, new-blank}
 use Rattle.layout.proofs.Lacking.{nothing-there}
 use Rattle.recasting.proofs.NeverLaws.{shared, column-12, same}
@@ -43,7 +43,7 @@ no-place ed q la lo b = rw b
 -- editions between which column 12 stays read it alike
 alike-digits : (from to : Edition) (q la lo : List ℕ) → crosses from to ≡ false → placeOf to q la lo ≡ placeOf from q la lo
 unfolding placeOf
-alike-digits from to q la lo h = ap (λ (p : Place). cond (blank q || blank la || blank lo) Missing (At p)) (alike-places from to (number q) (number la) (number lo) h)
+alike-digits from to q la lo h = ap (λ (p : Place). cond (blank q || blank la || blank lo) Missing (At p)) (alike-places (number q) (number la) (number lo) from to h)
 
 -- the digit that is taken gives the place that the other gave
 moved : (from to : Edition) (xs : List ℕ) (f : HasDigit from to xs) →

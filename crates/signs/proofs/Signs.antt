@@ -1,4 +1,4 @@
--- A number of a signed width made from a natural below half the width's power: itself, and its negative. Assumes nothing.
+-- A number and its sign; and a number of a signed width made from a natural below half the width's power: itself, and its negative. Assumes nothing.
 use mathlib.Core.Path.{_≡_, refl, sym, ap, _∙_, subst}
 use mathlib.Core.Bool.{Bool, true, false, true≢false}
 use Prim.Native.Nat.{ℕ, zero, suc, _+_, _^_, _<_, _≤_, zero-le}
@@ -13,6 +13,16 @@ use mir.Syntax.{Width, w64}
 use mir.Val.{hbits, Fits, SFits, toZ, ofZ}
 use mir.Facts.{toZ-ofZ, toZ-pos}
 use Rattle.signs.specs.Signed.{signed, negative}
+
+-- a number is its sign and its distance from zero, and that is the distance of what they make
+pub rejoined : (a : ℤ) → signed (negative a) (natAbs a) ≡ a
+rejoined (pos n) = refl
+rejoined (negsuc n) = refl
+
+pub distance : (b : Bool) (n : ℕ) → natAbs (signed b n) ≡ n
+distance true zero = refl
+distance true (suc n) = refl
+distance false n = refl
 
 mag-neg : (n : ℕ) → mag (negℤ (pos n)) ≤ n
 mag-neg zero = omega arith

@@ -19,19 +19,16 @@ use Rattle.numerals.specs.Spelling.{spelled, spell}
 use Rattle.numerals.proofs.Backs.{digits-back, blanks-back, bytes-back, spelled-beyond}
 use Rattle.layout.specs.declared.Edition.{Edition}
 use Rattle.layout.specs.Page.{element, page, widthOf}
+use Rattle.layout.proofs.Holding.{Holds, empty, holds}
 use Rattle.ties.specs.Ties.{placeTie, signTie}
 use Rattle.ties.specs.Ties as Ties
 use Rattle.ties.proofs.Together.{latitude-alike, longitude-alike, value-alike}
 use Rattle.reading.specs.declared.Reading.the-variants.{Missing, Code, Text}
-use Rattle.places.proofs.PlaceLaws.{distance, digit-of-place, latitude-of-place, longitude-of-place}
+use Rattle.places.proofs.PlaceLaws.{digit-of-place, latitude-of-place, longitude-of-place}
 use Rattle.signs.specs.Signed.{signed, negative}
+use Rattle.signs.proofs.Signs.{distance}
 use Rattle.reading.specs.Readings.{alwaysText, plain, below, kindOf, temperature, departure, placeOf}
 use Rattle.spelling.specs.Spelled.{signDigit, amountNumeral, placeNumeral, numeralFor}
-
--- a text that is blank, or digits whose number passes the test p
-pub data Holds (p : ℕ → Bool) (t : List ℕ) : Type 0 where
-  empty : blank t ≡ true → Holds p t
-  holds : blank t ≡ false → digits t ≡ true → p (number t) ≡ true → Holds p t
 
 -- an element by itself
 module _ (ed : Edition) (e : ℕ) (t : List ℕ) (long : length t ≡ widthOf e) (prints : every printable t ≡ true) where

@@ -18,29 +18,17 @@ use Rattle.layout.specs.declared.Edition.{Edition}
 use Rattle.layout.specs.declared.Edition.the-variants.{One, Three, Four}
 use Rattle.layout.specs.Editions.{lastOf}
 use Rattle.layout.specs.Page.{page, element, widthOf, textOf, textsOf, mayBeBlank, legal}
+use Rattle.places.proofs.DigitLaws.{stands, column-texts}
 use Rattle.ties.specs.Ties.{tie, signTie}
 use Rattle.checking.specs.Acceptable.{Acceptable}
 use Rattle.reading.specs.declared.Reading.{Reading}
 use Rattle.reading.specs.Readings.{temperature, itemOf, readingOf}
 use Rattle.spelling.specs.Spelled.{numeralFor}
 use Rattle.layout.proofs.Elements.{in-each}
+use Rattle.layout.proofs.Holding.{Holds, empty, holds, in-digits, within}
 use Rattle.layout.proofs.RecordLaws.{text-long}
 use Rattle.checking.proofs.PrintLaws.{legal-prints}
-use Rattle.spelling.proofs.BackLaws.{Holds, empty, holds, plain-back, sign-back, value-back, departure-back, digit-back, latitude-back, longitude-back}
-
--- a text that is legal in digits
-pub in-digits : (p : ℕ → Bool) (ed : Edition) (xs : List ℕ) (e : ℕ) → allows (textsOf ed e) (textOf e xs) ≡ (digits (textOf e xs) && p (number (textOf e xs))) →
-    legal ed xs e ≡ true → Holds p (textOf e xs)
-unfolding legal
-in-digits p ed xs e f h = by (mayBeBlank e) (blank (textOf e xs)) refl h
-  where
-    allowed : blank (textOf e xs) ≡ false → allows (textsOf ed e) (textOf e xs) ≡ true → Holds p (textOf e xs)
-    allowed b g = let k = sym f ∙ g in holds b (and-first _ _ k) (and-second (digits (textOf e xs)) _ k)
-
-    by : (x y : Bool) → blank (textOf e xs) ≡ y → ((x && y) || allows (textsOf ed e) (textOf e xs)) ≡ true → Holds p (textOf e xs)
-    by x true b g = empty b
-    by true false b g = allowed b g
-    by false false b g = allowed b g
+use Rattle.spelling.proofs.BackLaws.{plain-back, sign-back, value-back, departure-back, digit-back, latitude-back, longitude-back}
 
 -- the legal texts of a sign, alike in every edition: 0 and 1 for the air and the sea, computed and iced too for the dew point and the wet bulb; and those of a
 -- temperature
@@ -83,27 +71,11 @@ module _ (ed : Edition) (xs : List ℕ) where
   unfolding allows
   all-signs e f h = in-digits (either 0 2 5 7) ed xs e (rw f) h
 
-  pub within : (a b e : ℕ) → textsOf ed e ≡ Within a b → Legal e → Holds (between a b) (textOf e xs)
-  unfolding allows
-  within a b e f h = in-digits (between a b) ed xs e (rw f) h
-
   pub signs : (e : ℕ) → among 16 18 28 50 e ≡ true → Legal e → Holds (either 0 2 5 7) (textOf e xs)
   signs e g h = ⊎-elim (λ t. few-signs e t h) (λ t. all-signs e t h) (sign-texts ed e g)
 
   pub values : (e : ℕ) → among 17 19 29 51 e ≡ true → Legal e → Holds (between 0 999) (textOf e xs)
-  values e g h = within 0 999 e (value-texts ed e g) h
-
--- column 12: octants in edition 1, quadrants in the others
-pub hemispheres : Edition → ℕ → Bool
-hemispheres One = either 0 3 5 8
-hemispheres Three = among 1 3 5 7
-hemispheres Four = among 1 3 5 7
-
-pub of-hemispheres : (ed : Edition) (t : List ℕ) → allows (textsOf ed 6) t ≡ (digits t && hemispheres ed (number t))
-unfolding element page allows hemispheres
-of-hemispheres One t = refl
-of-hemispheres Three t = refl
-of-hemispheres Four t = refl
+  values e g h = within ed xs 0 999 e (value-texts ed e g) h
 
 pub departures : (ed : Edition) (xs : List ℕ) → 91 ≤ lastOf ed → legal ed xs 91 ≡ true → Holds (either 0 99 101 199) (textOf 91 xs)
 unfolding element page allows
@@ -147,8 +119,8 @@ module _ (ed : Edition) (xs : List ℕ) (a : Acceptable ed xs) where
   hemisphere-back : Back 6
   unfolding itemOf tie
   hemisphere-back h =
-      digit-back ed (textOf 6 xs) (textOf 7 xs) (textOf 8 xs) (a .tied 1) (hemispheres ed) (text-long ed xs (a .full) 6 h)
-      (in-digits (hemispheres ed) ed xs 6 (of-hemispheres ed (textOf 6 xs)) (a .lawful 6 (lit≤ tt) h))
+      digit-back ed (textOf 6 xs) (textOf 7 xs) (textOf 8 xs) (a .tied 1) (stands ed) (text-long ed xs (a .full) 6 h)
+      (in-digits (stands ed) ed xs 6 (column-texts ed (textOf 6 xs)) (a .lawful 6 (lit≤ tt) h))
 
   place-back : (e : ℕ) → among 7 8 7 8 e ≡ true → Back e
   unfolding itemOf tie element page

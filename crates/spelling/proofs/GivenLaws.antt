@@ -18,6 +18,7 @@ use Rattle.numerals.specs.Spelling.{spelled, spell, inDigits, inBlanks}
 use Rattle.layout.specs.declared.Edition.{Edition}
 use Rattle.layout.specs.Page.{element, page, widthOf, textsOf, mayBeBlank, legalText}
 use Rattle.layout.proofs.Elements.{blank-legal, allowed-legal}
+use Rattle.layout.proofs.Holding.{Holds}
 use Rattle.ties.specs.Ties.{placeTie, signTie}
 use Rattle.ties.specs.Ties as Ties
 use Rattle.reading.specs.declared.Kind.{Kind}
@@ -25,7 +26,7 @@ use Rattle.reading.specs.declared.Kind.the-variants.{Measured, Computed}
 use Rattle.reading.specs.declared.Reading.the-variants.{Missing, Amount}
 use Rattle.reading.specs.Readings.{temperature, placeOf}
 use Rattle.spelling.specs.Spelled.{amountNumeral, numeralFor}
-use Rattle.spelling.proofs.BackLaws.{Holds, sign-back, value-back, digit-back, latitude-back, longitude-back}
+use Rattle.spelling.proofs.BackLaws.{sign-back, value-back, digit-back, latitude-back, longitude-back}
 
 -- a sign s and a temperature v, of which t and u are spelled
 module _ (ed : Edition) (e f : ℕ) (s v t u : List ℕ) (g : among 16 18 28 50 e ≡ true) (n : among 16 18 28 50 f ≡ false) (k : among 17 19 29 51 f ≡ true)

@@ -1,25 +1,21 @@
 -- Two readings that are the same in every part are equal, and a reading is the same as itself. Assumes nothing.
 use mathlib.Core.Path.{_≡_, refl, sym, ap, _∙_}
-use mathlib.Core.Bool.{Bool, true, false, Bool·beq, true≢false}
+use mathlib.Core.Bool.{Bool, true, Bool·beq}
 use mathlib.Core.List.{List, [], _∷_}
 use Prim.Native.Nat.{ℕ}
 use borrow.Author.Tests.{eqb-true, eq-eqb}
 use lib.Dec.{eqb}
-use lib.IntN.{ℤ, pos, negsuc, natAbs}
+use lib.IntN.{ℤ}
 use lib.ListN.{getD}
-use Rattle.text.proofs.Ways.{and-first, and-second}
+use Rattle.text.proofs.Ways.{and-first, and-second, beq-true, beq-same}
 use Rattle.reading.specs.declared.Kind.{Kind}
 use Rattle.reading.specs.declared.Kind.the-variants.{Measured, Computed, IcedMeasured, IcedComputed}
 use Rattle.reading.specs.declared.Reading.{Reading}
 use Rattle.reading.specs.declared.Reading.the-variants.{Missing, Code, Text, Amount, At}
-use Rattle.signs.specs.Signed.{signed, negative}
+use Rattle.signs.specs.Signed.{signed}
+use Rattle.signs.proofs.Signs.{rejoined}
 use Rattle.spelling.specs.declared.Parts.{Parts}
 use Rattle.spelling.specs.Same.{kindNumber, partsOf, sameParts, same}
-
--- a number is its sign and its distance from zero
-pub rejoined : (a : ℤ) → signed (negative a) (natAbs a) ≡ a
-rejoined (pos n) = refl
-rejoined (negsuc n) = refl
 
 abbrev kinds : List Kind
 kinds = Measured ∷ Computed ∷ IcedMeasured ∷ IcedComputed ∷ []
@@ -53,16 +49,6 @@ back (Code n) = refl
 back (Text n) = refl
 back (Amount a k) = rw (rejoined a, kind-is k)
 back (At p) = ap (λ (z : ℤ). At (record { latitude = z; longitude = p .longitude; digit = p .digit })) (rejoined (p .latitude))
-
-beq-true : (x y : Bool) → Bool·beq x y ≡ true → x ≡ y
-beq-true true true e = refl
-beq-true true false e = absurd (true≢false (sym e))
-beq-true false true e = absurd (true≢false (sym e))
-beq-true false false e = refl
-
-beq-same : (x : Bool) → Bool·beq x x ≡ true
-beq-same true = refl
-beq-same false = refl
 
 made : {p q : Parts} → p .case ≡ q .case → p .below ≡ q .below → p .first ≡ q .first → p .second ≡ q .second → p .third ≡ q .third → p ≡ q
 made {p} {q} a b c d f =

@@ -37,6 +37,17 @@ same-true true true e = refl
 same-true true false e = refl
 same-true false b e = absurd (false≢true e)
 
+-- two answers that are the same are equal
+pub beq-true : (x y : Bool) → Bool·beq x y ≡ true → x ≡ y
+beq-true true true e = refl
+beq-true true false e = absurd (true≢false (sym e))
+beq-true false true e = absurd (true≢false (sym e))
+beq-true false false e = refl
+
+pub beq-same : (x : Bool) → Bool·beq x x ≡ true
+beq-same true = refl
+beq-same false = refl
+
 -- by what a test answers
 pub decide : {P : Type 0} (x : Bool) → (x ≡ true → P) → (x ≡ false → P) → P
 decide true f g = f refl

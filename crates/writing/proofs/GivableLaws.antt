@@ -19,14 +19,16 @@ use Rattle.layout.specs.Editions.{lastOf}
 use Rattle.layout.specs.Page.{element, page, widthOf, textOf, textsOf, mayBeBlank, legalText, legal}
 use Rattle.layout.proofs.Beyond.{last-above, text-none}
 use Rattle.layout.proofs.Elements.{last-below, in-each}
+use Rattle.layout.proofs.Holding.{Holds, empty, holds, in-digits, within}
+use Rattle.places.proofs.DigitLaws.{stands, column-texts}
 use Rattle.reading.specs.declared.Reading.{Reading}
 use Rattle.reading.specs.Readings.{temperature, departure, plain, placeOf, lead, itemOf, readingOf}
 use Rattle.reading.proofs.ReadingLaws.{lead-is, lead-of-lead}
 use Rattle.spelling.specs.Spelled.{numeralFor, given, recordOf}
 use Rattle.spelling.proofs.SameLaws.{same-self}
 use Rattle.spelling.proofs.RecordLaws.{record-long, record-text}
-use Rattle.spelling.proofs.BackLaws.{Holds, empty, holds, plain-back, departure-back}
-use Rattle.spelling.proofs.ElementLaws.{in-digits, sign-texts, value-texts, signs, values, within, hemispheres, of-hemispheres, departures}
+use Rattle.spelling.proofs.BackLaws.{plain-back, departure-back}
+use Rattle.spelling.proofs.ElementLaws.{sign-texts, value-texts, signs, values, departures}
 use Rattle.spelling.proofs.GivenLaws.{pair-kept, place-kept}
 use Rattle.writing.specs.Written.{writes}
 use Rattle.writing.specs.Givable.{Givable}
@@ -75,9 +77,9 @@ module _ (ed : Edition) (rs : List Reading) (e : ℕ) (g : Givable ed rs e) wher
       (placeOf ed (textOf 6 ys) (textOf 7 ys) (textOf 8 ys) ≡ placeOf ed (textOf 6 xs) (textOf 7 xs) (textOf 8 xs))))
   unfolding itemOf element page legal
   places s =
-      place-kept ed (textOf 6 xs) (textOf 7 xs) (textOf 8 xs) (textOf 6 ys) (textOf 7 ys) (textOf 8 ys) (hemispheres ed)
+      place-kept ed (textOf 6 xs) (textOf 7 xs) (textOf 8 xs) (textOf 6 ys) (textOf 7 ys) (textOf 8 ys) (stands ed)
       (long 6 (lit≤ tt)) (long 7 (lit≤ tt)) (long 8 (lit≤ tt))
-      (in-digits (hemispheres ed) ed xs 6 (of-hemispheres ed (textOf 6 xs)) (lawful 6 (lit≤ tt) (lit≤ tt) s))
+      (in-digits (stands ed) ed xs 6 (column-texts ed (textOf 6 xs)) (lawful 6 (lit≤ tt) (lit≤ tt) s))
       (within ed xs 0 900 7 (in-each ed 7 (Within 0 900) refl refl refl) (lawful 7 (lit≤ tt) (lit≤ tt) s))
       (within ed xs 0 1800 8 (in-each ed 8 (Within 0 1800) refl refl refl) (lawful 8 (lit≤ tt) (lit≤ tt) s))
       (lawful 6 (lit≤ tt) (lit≤ tt) s)

@@ -41,12 +41,4 @@ returns-3 c = c .is-among2 .ensures ∙ at-edition _ (c .before .enum-told3 .giv
 pub is-south-spec : {M : Type 1} → statement M
 is-south-spec =
     tie.close
-    (tie.spec
-    enum-told
-    enum-told-2
-    is-among-requires
-    enum-told-3
-    is-among-requires-2
-    returns
-    returns-2
-    returns-3)
+    (tie.spec enum-told enum-told-2 is-among-requires enum-told-3 is-among-requires-2 returns returns-2 returns-3)

@@ -44,13 +44,4 @@ returns-3 c = c .is-among3 .ensures ∙ at-edition _ (c .before .enum-told3 .giv
 pub is-west-spec : {M : Type 1} → statement M
 is-west-spec =
     tie.close
-    (tie.spec
-    enum-told
-    is-among-requires
-    enum-told-2
-    is-among-requires-2
-    enum-told-3
-    is-among-requires-3
-    returns
-    returns-2
-    returns-3)
+    (tie.spec enum-told is-among-requires enum-told-2 is-among-requires-2 enum-told-3 is-among-requires-3 returns returns-2 returns-3)

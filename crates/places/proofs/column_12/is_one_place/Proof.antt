@@ -71,12 +71,4 @@ returns-3 c =
 pub is-one-place-spec : {M : Type 1} → statement M
 is-one-place-spec =
     tie.close
-    (tie.spec
-    is-negative-requires
-    is-negative-requires-2
-    same-requires
-    returns
-    magnitude-requires
-    magnitude-requires-2
-    returns-2
-    returns-3)
+    (tie.spec is-negative-requires is-negative-requires-2 same-requires returns magnitude-requires magnitude-requires-2 returns-2 returns-3)

@@ -11,7 +11,6 @@ use Rattle.text.specs.Texts.{among, allows}
 use Rattle.text.proofs.Ways.{and-first}
 use Rattle.text.proofs.Among.{either-half, among-cases, at-number}
 use Rattle.layout.specs.declared.Edition.{Edition}
-use Rattle.layout.specs.declared.Edition.the-variants.{One, Three, Four}
 use Rattle.layout.specs.Editions.{lastOf}
 use Rattle.layout.specs.Page.{textOf, textsOf, mayBeBlank, legal}
 use Rattle.layout.proofs.Beyond.{text-none, legal-none}

@@ -1,23 +1,22 @@
 -- The columns of each element of an acceptable record, spelled from its reading, are its columns again. Assumes nothing.
-use mathlib.Core.Path.{_≡_, refl, sym, ap, _∙_}
-use mathlib.Core.Bool.{Bool, true, false, _&&_, _||_}
+use mathlib.Core.Path.{_≡_, refl, ap, _∙_}
+use mathlib.Core.Bool.{Bool, true, false}
 use mathlib.Core.Logic.{_⊎_, inl, inr, ⊎-elim}
 use mathlib.Core.List.{List}
 use Prim.Native.Nat.{ℕ, _-_, _≤_}
 use native.Mathlib.Omega.{arith}
 use borrow.Author.Tests.{le-leb}
 use lib.Dec.{eqb, lit≤}
-use Rattle.text.specs.Bytes.{between, either, blank, digits, number}
+use Rattle.text.specs.Bytes.{between, either, number}
 use Rattle.text.specs.declared.Texts.the-variants.{Within, Either}
 use Rattle.text.specs.Texts.{among, allows}
 use Rattle.text.proofs.Ranges.{greatest}
 use Rattle.text.proofs.Among.{at-number, among-cases}
-use Rattle.text.proofs.Ways.{and-first, and-second}
 use Rattle.numerals.specs.Spelling.{spell}
 use Rattle.layout.specs.declared.Edition.{Edition}
 use Rattle.layout.specs.declared.Edition.the-variants.{One, Three, Four}
 use Rattle.layout.specs.Editions.{lastOf}
-use Rattle.layout.specs.Page.{page, element, widthOf, textOf, textsOf, mayBeBlank, legal}
+use Rattle.layout.specs.Page.{page, element, widthOf, textOf, textsOf, legal}
 use Rattle.places.proofs.DigitLaws.{stands, column-texts}
 use Rattle.ties.specs.Ties.{tie, signTie}
 use Rattle.checking.specs.Acceptable.{Acceptable}

@@ -17,7 +17,7 @@ use Rattle.places.specs.declared.Place.{Place}
 use Rattle.places.specs.Places.{Tens}
 use Rattle.reading.specs.declared.Reading.{Reading}
 use Rattle.reading.specs.declared.Reading.the-variants.{At}
-use Rattle.reading.specs.Readings.{placeOf, lead, itemOf, readingOf}
+use Rattle.reading.specs.Readings.{placeOf, lead, itemOf}
 use Rattle.reading.proofs.Request2Readings.{gives-tens}
 use Rattle.spelling.specs.Spelled.{given}
 use Rattle.writing.specs.declared.Outcome.{Outcome}

@@ -61,15 +61,15 @@ module _ (ed : Edition) (d la lo : ℕ) where
   unfolding placeAt
   place-is s w m n q a o e f g h i j k = rw (j, k, e, f, g, h, i)
 
-  -- the digit and the figures of a place are those that gave it
-  pub digit-of-place : (placeAt ed d la lo) .digit ≡ d
-  unfolding placeAt
-  digit-of-place = refl
-
   -- a place is its two numbers and its digit
   pub with-numbers : (a : ℤ) (o : ℕ) → a ≡ (placeAt ed d la lo) .latitude → o ≡ (placeAt ed d la lo) .longitude → placeAt ed d la lo ≡ record { latitude = a; longitude = o; digit = d }
   unfolding placeAt
   with-numbers a o e f = rw (e, f)
+
+  -- the digit and the figures of a place are those that gave it
+  pub digit-of-place : (placeAt ed d la lo) .digit ≡ d
+  unfolding placeAt
+  digit-of-place = refl
 
   pub latitude-of-place : latitudeFigure (placeAt ed d la lo) ≡ la
   unfolding placeAt latitudeFigure

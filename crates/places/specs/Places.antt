@@ -21,18 +21,18 @@ west One digit = among 0 1 5 6 digit
 west Three digit = among 5 7 5 7 digit
 west Four digit = among 5 7 5 7 digit
 
--- an octant's range, which is tie 2's business: 0, 3, 5, 8 need longitude at most 0900; 1, 2, 6, 7 at least 0900
+-- the octants' ranges, which tie 2 asks for: octants 0, 3, 5, 8 need longitude at most 0900; 1, 2, 6, 7 at least 0900
 unfoldable pub octantFits : ℕ → ℕ → Bool
 octantFits octant longitude = cond (among 0 3 5 8 octant) (leb longitude 900) (leb 900 longitude)
 
--- the unit: the columns count tenths of a degree, and a place hundredths, so many to a tenth
+-- the unit: a place counts hundredths of a degree, so many to each tenth that the columns count
 abbrev pub unit : ℕ
 unit = 10
 
 abbrev pub hundredths : ℕ → ℕ
 hundredths tenths = tenths * unit
 
--- the tenths in so many hundredths; what is left over no columns say
+-- the whole tenths in so many hundredths
 abbrev pub tenths : ℕ → ℕ
 tenths hundredths = hundredths / unit
 
@@ -55,7 +55,7 @@ latitudeFigure p = tenths (natAbs (p .latitude))
 unfoldable pub longitudeFigure : Edition → Place → ℕ
 longitudeFigure ed p = tenths (east (west ed (p .digit)) (p .longitude))
 
--- a place that columns can say is a multiple of ten in both numbers
+-- both numbers of a place are multiples of ten, as those are that columns say
 pub record Tens (p : Place) : Type 0 where
   pub latitude : natAbs (p .latitude) % 10 ≡ 0
   pub longitude : p .longitude % 10 ≡ 0

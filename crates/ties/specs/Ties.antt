@@ -20,7 +20,7 @@ there t = not (blank t)
 unfoldable pub placeTie : List ℕ → List ℕ → List ℕ → Bool
 placeTie digit latitude longitude = Bool·beq (there digit) (there latitude) && Bool·beq (there latitude) (there longitude)
 
--- 2. edition 1: octants 0, 3, 5, 8 need longitude at most 0900; 1, 2, 6, 7 at least 0900
+-- 2. edition 1: the longitude lies in the octant's range
 unfoldable pub octantTie : Edition → List ℕ → List ℕ → Bool
 octantTie One digit longitude = blank digit || octantFits (number digit) (number longitude)
 octantTie Three digit longitude = true

@@ -9,11 +9,13 @@ use borrow.Author.Tests.{eq-eqb, eqb-true, not-true, not-false}
 use Rattle.text.proofs.First.{Looked, nowhere, lowest, looked}
 use Rattle.text.proofs.Ways.{and-first, and-second}
 use Rattle.layout.specs.declared.Edition.{Edition}
+use Rattle.signs.specs.Signed.{sameSigned}
+use Rattle.signs.proofs.Signs.{signed-equal, equal-signed}
 use Rattle.places.specs.Places.{south, west, placeAt}
-use Rattle.places.specs.Digits.{sameSigned, samePlace, keepsTie, mayStand, suits, lowestDigit}
+use Rattle.places.specs.Digits.{samePlace, keepsTie, mayStand, suits, lowestDigit}
 use Rattle.places.proofs.PlaceLaws.{same-sides}
 use Rattle.places.proofs.DigitLaws.{unsuited, suited-at}
-use Rattle.places.proofs.Gives.{signed-equal, equal-signed, both, Gives, gives}
+use Rattle.places.proofs.Gives.{both, Gives, gives}
 
 -- two digits give the same place exactly where their two numbers are the same
 module _ (from to : Edition) (d c latitude longitude : ℕ) where

@@ -4,9 +4,7 @@ use mathlib.Core.Bool.{Bool, true, false, not, _&&_, Bool·beq, true≢false}
 use mathlib.Core.List.{List, [], _∷_}
 use Prim.Native.Nat.{ℕ, zero, suc, _+_, _-_, _*_, _≤_}
 use native.Mathlib.Omega.{arith}
-use borrow.Author.Tests.{eq-eqb, ne-eqb, le-leb}
-use lib.Dec.{eqb}
-use lib.IntN.{natAbs}
+use borrow.Author.Tests.{eq-eqb, le-leb}
 use Rattle.text.specs.First.{firstFrom}
 use Rattle.text.specs.Bytes.{either, every, digits, number, valueFrom}
 use Rattle.text.specs.Texts.{among, allows}
@@ -14,10 +12,10 @@ use Rattle.text.proofs.First.{end, off, on}
 use Rattle.layout.specs.declared.Edition.{Edition}
 use Rattle.layout.specs.declared.Edition.the-variants.{One, Three, Four}
 use Rattle.layout.specs.Page.{element, page, textsOf}
-use Rattle.signs.specs.Signed.{signed, negative}
+use Rattle.signs.specs.Signed.{signed, sameSigned}
 use Rattle.places.specs.declared.Place.{Place}
 use Rattle.places.specs.Places.{south, west, placeAt}
-use Rattle.places.specs.Digits.{sameSigned, onePlace, samePlace, keepsTie, mayStand, isFirst, crosses, suits, lowestDigit}
+use Rattle.places.specs.Digits.{onePlace, samePlace, keepsTie, mayStand, isFirst, crosses, suits, lowestDigit}
 
 -- which digits may stand in column 12: octants in edition 1, quadrants in the others
 abbrev pub stands : Edition → ℕ → Bool
@@ -47,22 +45,10 @@ tie-at digit longitude e = sym (ap (λ (ed : Edition). keepsTie ed digit longitu
 -- off the equator north and south are two
 pub off-equator : (a b : Bool) (n : ℕ) → (n ≡ 0 → ⊥) → Bool·beq a b ≡ sameSigned (signed a n) (signed b n)
 off-equator a b zero h = absurd (h refl)
-off-equator true true (suc n) h = sym (eq-eqb (suc n) (suc n) refl)
+off-equator true true (suc n) h = sym (eq-eqb n n refl)
 off-equator true false (suc n) h = refl
 off-equator false true (suc n) h = refl
 off-equator false false (suc n) h = sym (eq-eqb (suc n) (suc n) refl)
-
--- two places, by what the code found of the sides of the equator, and of the distances from it
-module _ (p q : Place) (x y s : Bool) (e : x ≡ negative (p .latitude)) (f : y ≡ negative (q .latitude)) (g : s ≡ Bool·beq x y) where
-  pub sides-apart : s ≡ false → false ≡ onePlace p q
-  sides-apart h = rw (← e, ← f, ← g, h)
-
-  module _ (h : s ≡ true) (m n : ℕ) (k : m ≡ natAbs (p .latitude)) (l : n ≡ natAbs (q .latitude)) where
-    pub latitudes-apart : (m ≡ n → ⊥) → false ≡ onePlace p q
-    latitudes-apart o = rw (← e, ← f, ← g, h, ← k, ← l, ne-eqb m n o)
-
-    pub one-latitude : m ≡ n → eqb (p .longitude) (q .longitude) ≡ onePlace p q
-    one-latitude o = rw (← e, ← f, ← g, h, ← k, ← l, eq-eqb m n o)
 
 -- the place that each of two digits gives
 pub of-digits : (from : Edition) (d : ℕ) (to : Edition) (c latitude longitude : ℕ) (p q : Place) → p ≡ placeAt from d latitude longitude → q ≡ placeAt to c latitude longitude →

@@ -1,30 +1,17 @@
--- Two signed numbers are equal exactly where signs and distances from zero are; and each edition has a digit for any two hemispheres and any longitude. Assumes nothing.
-use mathlib.Core.Path.{_≡_, refl, sym, ap, _∙_}
-use mathlib.Core.Bool.{Bool, true, false, _&&_, Bool·beq}
+-- Each edition has a digit for any two hemispheres and any longitude. Assumes nothing.
+use mathlib.Core.Path.{_≡_, refl}
+use mathlib.Core.Bool.{Bool, true, false, _&&_}
 use Prim.Native.Nat.{ℕ, _≤_}
 use native.Mathlib.Omega.{arith}
-use borrow.Author.Tests.{eq-eqb, eqb-true, le-leb, leb-false}
-use lib.Dec.{eqb, leb, lit≤}
-use lib.IntN.{ℤ, natAbs}
+use borrow.Author.Tests.{le-leb, leb-false}
+use lib.Dec.{leb, lit≤}
 use Rattle.text.specs.Bytes.{every, valueFrom}
 use Rattle.text.specs.Texts.{allows}
-use Rattle.text.proofs.Ways.{and-first, and-second, beq-true, beq-same}
 use Rattle.layout.specs.declared.Edition.{Edition}
 use Rattle.layout.specs.declared.Edition.the-variants.{One, Three, Four}
 use Rattle.layout.specs.Page.{element, page}
-use Rattle.signs.specs.Signed.{signed, negative}
-use Rattle.signs.proofs.Signs.{rejoined}
 use Rattle.places.specs.Places.{south, west, octantFits}
-use Rattle.places.specs.Digits.{sameSigned, keepsTie, mayStand}
-
-pub signed-equal : (a b : ℤ) → sameSigned a b ≡ true → a ≡ b
-signed-equal a b e =
-    let s : negative a ≡ negative b = beq-true _ _ (and-first (Bool·beq (negative a) (negative b)) (eqb (natAbs a) (natAbs b)) e) in
-    let n : natAbs a ≡ natAbs b = eqb-true _ _ (and-second (Bool·beq (negative a) (negative b)) (eqb (natAbs a) (natAbs b)) e) in
-    sym (rejoined a) ∙ ap (λ (x : Bool). signed x (natAbs a)) s ∙ ap (λ (k : ℕ). signed (negative b) k) n ∙ rejoined b
-
-pub equal-signed : (a b : ℤ) → a ≡ b → sameSigned a b ≡ true
-equal-signed a b e = rw (e, beq-same (negative b)) (eq-eqb (natAbs b) (natAbs b) refl)
+use Rattle.places.specs.Digits.{keepsTie, mayStand}
 
 -- both halves of a test
 pub both : {a b : Bool} → a ≡ true → b ≡ true → (a && b) ≡ true

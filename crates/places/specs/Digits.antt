@@ -3,18 +3,14 @@ use Prim.Native.Nat.{ℕ, _+_, _-_}
 use mathlib.Core.Bool.{Bool, true, false, not, _&&_, Bool·beq}
 use mathlib.Core.List.{[], _∷_}
 use lib.Dec.{eqb}
-use lib.IntN.{ℤ, natAbs}
 use Rattle.text.specs.First.{firstFrom}
 use Rattle.text.specs.Texts.{allows}
 use Rattle.layout.specs.declared.Edition.{Edition}
 use Rattle.layout.specs.declared.Edition.the-variants.{One, Three, Four}
 use Rattle.layout.specs.Page.{textsOf}
-use Rattle.signs.specs.Signed.{negative}
+use Rattle.signs.specs.Signed.{sameSigned}
 use Rattle.places.specs.declared.Place.{Place}
 use Rattle.places.specs.Places.{octantFits, placeAt}
-
-abbrev pub sameSigned : ℤ → ℤ → Bool
-sameSigned a b = Bool·beq (negative a) (negative b) && eqb (natAbs a) (natAbs b)
 
 -- two places are one: the same signed latitude and the same east longitude, whatever digit gives them
 abbrev pub onePlace : Place → Place → Bool

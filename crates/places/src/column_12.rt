@@ -29,16 +29,7 @@ fn may_stand(edition: Edition, digit: u32) -> bool
 fn is_one_place(a: Place, b: Place) -> bool
     ensures { λ r. ⌜ r ≡ onePlace a b ⌝ }
 {
-    if !text::same(
-        signs::is_negative(a.latitude),
-        signs::is_negative(b.latitude),
-    ) {
-        return false;
-    }
-    if signs::magnitude(a.latitude) != signs::magnitude(b.latitude) {
-        return false;
-    }
-    a.longitude == b.longitude
+    signs::is_same(a.latitude, b.latitude) && a.longitude == b.longitude
 }
 
 // Do two digits, each in its edition, give the same place?

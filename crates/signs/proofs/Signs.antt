@@ -5,14 +5,14 @@ use Prim.Native.Nat.{ℕ, zero, suc, _+_, _^_, _<_, _≤_, zero-le}
 use native.Mathlib.Nat.{lt-of-le-of-lt}
 use native.Mathlib.Omega.{arith}
 use native.Mathlib.Numerals.{add-one}
-use borrow.Author.Tests.{le-leb, le-ltb}
-use lib.Dec.{T, lit<}
+use borrow.Author.Tests.{eq-eqb, ne-eqb, eqb-true, le-leb, le-ltb}
+use lib.Dec.{eqb, T, lit<}
 use lib.IntN.{ℤ, pos, negsuc, negℤ, sucℤ, natAbs, _+ℤ_, _-ℤ_, +ℤ-idl, +ℤ-one}
 use lib.Signed.{mag, ltZ, leZ, nonNeg}
 use mir.Syntax.{Width, w64}
 use mir.Val.{hbits, Fits, SFits, toZ, ofZ}
 use mir.Facts.{toZ-ofZ, toZ-pos}
-use Rattle.signs.specs.Signed.{signed, negative}
+use Rattle.signs.specs.Signed.{signed, negative, sameSigned}
 
 -- a number is its sign and its distance from zero, and that is the distance of what they make
 pub rejoined : (a : ℤ) → signed (negative a) (natAbs a) ≡ a
@@ -23,6 +23,20 @@ pub distance : (b : Bool) (n : ℕ) → natAbs (signed b n) ≡ n
 distance true zero = refl
 distance true (suc n) = refl
 distance false n = refl
+
+-- two numbers are equal exactly where they are the same
+pub signed-equal : (a b : ℤ) → sameSigned a b ≡ true → a ≡ b
+signed-equal (pos m) (pos n) e = ap pos (eqb-true m n e)
+signed-equal (negsuc m) (negsuc n) e = ap negsuc (eqb-true m n e)
+signed-equal (pos m) (negsuc n) e = absurd (true≢false (sym e))
+signed-equal (negsuc m) (pos n) e = absurd (true≢false (sym e))
+
+pub equal-signed : (a b : ℤ) → a ≡ b → sameSigned a b ≡ true
+equal-signed a b e = rw e (by b)
+  where
+    by : (z : ℤ) → sameSigned z z ≡ true
+    by (pos n) = eq-eqb n n refl
+    by (negsuc n) = eq-eqb n n refl
 
 mag-neg : (n : ℕ) → mag (negℤ (pos n)) ≤ n
 mag-neg zero = omega arith
@@ -53,6 +67,14 @@ module _ (a : ℤ) (f : SFits w64 a) where
   pub itself : back a ≡ a
   itself = toZ-ofZ f
 
+  -- two numbers have the same bits exactly where they are the same
+  pub same-bits : (b : ℤ) → SFits w64 b → eqb (ofZ w64 a) (ofZ w64 b) ≡ sameSigned a b
+  same-bits b g = by (sameSigned a b) refl
+    where
+      by : (x : Bool) → sameSigned a b ≡ x → eqb (ofZ w64 a) (ofZ w64 b) ≡ x
+      by true e = eq-eqb (ofZ w64 a) (ofZ w64 b) (ap (ofZ w64) (signed-equal a b e))
+      by false e = ne-eqb (ofZ w64 a) (ofZ w64 b) (λ h. true≢false (sym (equal-signed a b (sym itself ∙ ap (toZ w64) h ∙ toZ-ofZ g)) ∙ e))
+
   pub below-zero : ltZ (back a) (pos 0) ≡ negative a
   below-zero = ap (λ (z : ℤ). ltZ z (pos 0)) itself ∙ by a
     where
@@ -70,6 +92,9 @@ module _ (a : ℤ) (f : SFits w64 a) where
 
   pub up-is : natAbs (back a) ≡ natAbs a
   up-is = ap natAbs itself
+
+pub same-back : (a b : ℤ) → SFits w64 a → SFits w64 b → sameSigned (back a) (back b) ≡ sameSigned a b
+same-back a b f g = rw (itself a f, itself b g)
 
 -- no number of 64 bits is further from zero than 2 ^ 63
 pub most : (z : ℤ) → SFits w64 z → natAbs z ≤ 2 ^ 63

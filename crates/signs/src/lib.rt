@@ -4,7 +4,7 @@
 ghost use mathlib.Core.Path.{_≡_};
 ghost use Prim.Native.Nat.{_^_, _<_, _≤_};
 ghost use lib.IntN.{natAbs};
-ghost use Rattle.signs.specs.Signed.{signed, negative};
+ghost use Rattle.signs.specs.Signed.{signed, negative, sameSigned};
 
 // A number with its sign.
 pub fn signed_of(is_below: bool, n: u64) -> i64
@@ -32,4 +32,11 @@ pub fn magnitude(a: i64) -> u64
     }
     let above = -(a + 1);
     (above as u64) + 1
+}
+
+// Are they the same?
+pub fn is_same(a: i64, b: i64) -> bool
+    ensures { λ r. ⌜ r ≡ sameSigned a b ⌝ }
+{
+    a == b
 }

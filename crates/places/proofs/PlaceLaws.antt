@@ -10,7 +10,7 @@ use Rattle.layout.specs.declared.Edition.{Edition}
 use Rattle.layout.specs.declared.Edition.the-variants.{One, Three, Four}
 use Rattle.signs.specs.Signed.{signed}
 use Rattle.signs.proofs.Signs.{distance}
-use Rattle.places.specs.Places.{south, west, hundredths, tenths, east, placeAt, latitudeFigure, longitudeFigure}
+use Rattle.places.specs.Places.{south, west, hundredths, tenths, circle, east, placeAt, latitudeFigure, longitudeFigure}
 
 -- a digit past 9 gives no western hemisphere
 pub west-far : (ed : Edition) (d : ℕ) → 9 < d → false ≡ west ed d
@@ -28,14 +28,14 @@ module _ (w : Bool) (l m : ℕ) where
       by false h = f
       by true h = absurd (true≢false (sym h))
 
-  pub east-far : not w ≡ false → 36000 ≤ l → 0 ≡ east w l
+  pub east-far : not w ≡ false → circle ≤ l → 0 ≡ east w l
   east-far h k = by w h
     where
       by : (w : Bool) → not w ≡ false → 0 ≡ east w l
-      by true h = let z : 36000 - l ≡ 0 = omega arith in rw z
+      by true h = let z : circle - l ≡ 0 = omega arith in rw z
       by false h = absurd (true≢false h)
 
-  pub east-west : not w ≡ false → m ≡ (36000 - l) % 36000 → m ≡ east w l
+  pub east-west : not w ≡ false → m ≡ (circle - l) % circle → m ≡ east w l
   east-west h f = by w h
     where
       by : (w : Bool) → not w ≡ false → m ≡ east w l
@@ -43,12 +43,12 @@ module _ (w : Bool) (l m : ℕ) where
       by false h = absurd (true≢false h)
 
 -- turned twice a longitude is what it was
-turned-back : (w : Bool) (l : ℕ) → l ≤ 18000 → east w (east w l) ≡ l
+turned-back : (w : Bool) (l : ℕ) → l ≤ hundredths 1800 → east w (east w l) ≡ l
 turned-back false l h = refl
 turned-back true zero h = refl
 turned-back true (suc l) h =
-    let back : 36000 - (36000 - suc l) ≡ suc l = omega arith in
-    rw (mod-eq-of-lt {n = 36000 - suc l} {m = 36000} (omega arith), back) (mod-eq-of-lt {n = suc l} {m = 36000} (omega arith))
+    let back : circle - (circle - suc l) ≡ suc l = omega arith in
+    rw (mod-eq-of-lt {n = circle - suc l} {m = circle} (omega arith), back) (mod-eq-of-lt {n = suc l} {m = circle} (omega arith))
 
 -- tenths in hundredths and back again
 pub in-tenths : (n : ℕ) → tenths (hundredths n) ≡ n

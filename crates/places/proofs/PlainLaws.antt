@@ -12,7 +12,7 @@ use Rattle.text.proofs.First.{same-first}
 use Rattle.layout.specs.declared.Edition.{Edition}
 use Rattle.layout.specs.declared.Edition.the-variants.{One, Three, Four}
 use Rattle.layout.specs.Page.{element, page}
-use Rattle.places.specs.Places.{south, west, octantFits, hundredths, east, placeAt}
+use Rattle.places.specs.Places.{south, west, octantFits, hundredths, circle, east, placeAt}
 use Rattle.places.specs.Digits.{keepsTie, mayStand, suits, lowestDigit}
 use Rattle.places.specs.Plain.{Plain, digitIn}
 use Rattle.places.proofs.DigitLaws.{off-equator}
@@ -52,7 +52,7 @@ only-one Four far true true = refl
 
 module _ (latitude longitude : ℕ) (p : Plain latitude longitude) where
   -- east and west of a plain place are two
-  turned : ((36000 - hundredths longitude) % 36000 ≡ 36000 - hundredths longitude) × (hundredths longitude < 36000 - hundredths longitude)
+  turned : ((circle - hundredths longitude) % circle ≡ circle - hundredths longitude) × (hundredths longitude < circle - hundredths longitude)
   turned =
       let some : 1 ≤ longitude = omega (arith, p .off-meridian) in
       let low = p .below in
@@ -60,9 +60,9 @@ module _ (latitude longitude : ℕ) (p : Plain latitude longitude) where
 
   easts : (v w : Bool) → eqb (east v (hundredths longitude)) (east w (hundredths longitude)) ≡ Bool·beq v w
   easts false false = eq-eqb (hundredths longitude) (hundredths longitude) refl
-  easts true true = eq-eqb ((36000 - hundredths longitude) % 36000) ((36000 - hundredths longitude) % 36000) refl
-  easts false true = ne-eqb (hundredths longitude) ((36000 - hundredths longitude) % 36000) (λ q. omega (arith, q, turned .0, turned .1))
-  easts true false = ne-eqb ((36000 - hundredths longitude) % 36000) (hundredths longitude) (λ q. omega (arith, q, turned .0, turned .1))
+  easts true true = eq-eqb ((circle - hundredths longitude) % circle) ((circle - hundredths longitude) % circle) refl
+  easts false true = ne-eqb (hundredths longitude) ((circle - hundredths longitude) % circle) (λ q. omega (arith, q, turned .0, turned .1))
+  easts true false = ne-eqb ((circle - hundredths longitude) % circle) (hundredths longitude) (λ q. omega (arith, q, turned .0, turned .1))
 
   tie : (to : Edition) (c : ℕ) → keepsTie to c longitude ≡ sides to (ltb 900 longitude) c
   unfolding sides octantFits

@@ -36,9 +36,13 @@ hundredths tenths = tenths * unit
 abbrev pub tenths : ℕ → ℕ
 tenths hundredths = hundredths / unit
 
+-- the whole circle, 360.0 degrees
+abbrev pub circle : ℕ
+circle = hundredths 3600
+
 -- east longitude in hundredths, 0..35999; 180.00 W is 180.00 E. The same turns it back
 abbrev pub east : Bool → ℕ → ℕ
-east isWest longitude = cond isWest ((36000 - longitude) % 36000) longitude
+east isWest longitude = cond isWest ((circle - longitude) % circle) longitude
 
 -- the place that a digit, a latitude and a longitude give, each the number that its columns say
 unfoldable pub placeAt : Edition → ℕ → ℕ → ℕ → Place

@@ -71,6 +71,9 @@ fn wide(n: u32) -> u64
 // Hundredths of a degree in a tenth: the columns count tenths, and a place hundredths.
 const UNIT: u64 = 10;
 
+// The whole circle, 360.0 degrees.
+const CIRCLE: u64 = 3600 * UNIT;
+
 // A figure of the columns in hundredths.
 fn hundredths_of(tenths: u32) -> u64
     ensures { λ r. ⌜ r ≡ hundredths tenths ⌝ }
@@ -93,10 +96,10 @@ fn east_of(is_west: bool, longitude: u64) -> u64
     if !is_west {
         return longitude;
     }
-    if 36000 <= longitude {
+    if CIRCLE <= longitude {
         return 0;
     }
-    (36000 - longitude) % 36000
+    (CIRCLE - longitude) % CIRCLE
 }
 
 // The place that a digit and the figures of latitude and longitude give.

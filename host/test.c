@@ -3,8 +3,7 @@
  * around the lent buffer, and the worked cases of the rules.
  *
  * The answers are proved; what is tried here is what no proof has seen: the header, the way numbers and slices cross into C, and the
- * machine code. Prints a line for each test that fails and ends with 'tests N failed M'. Refusal 11 has no test: it is about reading one
- * element.
+ * machine code. Prints a line for each test that fails and ends with 'tests N failed M'.
  */
 #include <inttypes.h>
 #include <stdio.h>

@@ -39,8 +39,7 @@ extern "C" {
 
 /*
  * What the calls return, and the place that goes with it. They ask in this order, and the first that fails is the answer, at its
- * lowest place. A check asks 1 to 7, a recast 1 to 9. The table that these numbers come from has 11 (no such element in the edition)
- * too: neither call is asked for an element, so it is not returned.
+ * lowest place. A check asks 1 to 7, a recast 1 to 9.
  */
 enum immt_refusal {
     IMMT_OK = 0,                     /* accepted, or recast                               place 0 */

@@ -8,6 +8,10 @@
  *
  * One thing of the protocol does not come from a call: where the call sign stands. The proved call shows a part of the caller's own record,
  * which a function for C cannot return, so trial_show copies it. PLACE is 72 where the record has the copied bytes there, and 0 elsewhere.
+ *
+ * What the protocol has no words for is answered with `!`, which the peer never writes. In the place of a reading it says that the numbers are
+ * of no case or no kind, or are not 0 where the case does not use them. At the end of a line it says that a read wrote beyond its readings, or
+ * that with too few numbers lent it wrote at all or answered otherwise.
  */
 #include <inttypes.h>
 #include <stdio.h>
@@ -17,19 +21,21 @@
 #include "immt.h"
 
 /* libtrial.a; crates/trial/src/lib.rt says what the numbers mean */
-uint64_t trial_read(const uint8_t *record, size_t length, uint64_t element, uint64_t *place, uint64_t *reading, uint64_t *below,
-                    uint64_t *first, uint64_t *second, uint64_t *third);
+uint64_t trial_read(const uint8_t *record, size_t length, uint64_t *numbers, size_t number_count, int64_t *amounts, size_t amount_count,
+                    uint64_t *edition, uint64_t *place);
 uint64_t trial_show(const uint8_t *record, size_t length, uint8_t *buffer, size_t room);
 uint64_t trial_write(const uint64_t *numbers, size_t number_count, const int64_t *amounts, size_t amount_count, uint64_t edition,
                      uint8_t *buffer, size_t room, uint64_t *place);
 
-enum { ELEMENTS = 101, PARTS = 4, MOST_ROOM = 4096, GUARD = 16, CALL_SIGN_COLUMN = 72, PIECE = 1 << 16 };
+enum { ELEMENTS = 101, PARTS = 4, NUMBERS = PARTS * ELEMENTS, MOST_ROOM = 4096, GUARD = 16, CALL_SIGN_COLUMN = 72, PIECE = 1 << 16 };
 
 enum { YEAR_COLUMN = 2, YEAR_WIDTH = 4, MONTH_COLUMN = 6, DAY_COLUMN = 8, VERSION_COLUMN = 111, CALENDAR_TIE = 10 };
 
 enum { MISSING, CODE, TEXT, AMOUNT, PLACE };
 
-static const char *const kinds[] = {"measured", "computed", "iced measured", "iced computed"};
+enum { KINDS = 4 };
+
+static const char *const kinds[KINDS] = {"m", "c", "im", "ic"};
 
 static void fail(const char *what)
 {
@@ -72,6 +78,12 @@ static void put_number(struct bytes *bytes, uint64_t number)
 {
     char digits[24];
     put(bytes, digits, (size_t)sprintf(digits, "%" PRIu64, number));
+}
+
+static void put_signed(struct bytes *bytes, int64_t number)
+{
+    char digits[24];
+    put(bytes, digits, (size_t)sprintf(digits, "%" PRId64, number));
 }
 
 static void put_word(struct bytes *bytes, uint64_t word)
@@ -206,17 +218,16 @@ static int last_record(struct fields *fields, struct bytes *record)
     return next(fields, &field) && record_of(field, record) && !fields->more;
 }
 
-/* The readings as trial_write takes them: four numbers and an amount for each element. */
+/* The readings as trial_write takes them and trial_read leaves them, four numbers and an amount for each element, and a guard beyond. */
 struct readings {
-    uint64_t numbers[ELEMENTS * PARTS];
-    int64_t amounts[ELEMENTS];
+    uint64_t numbers[NUMBERS + GUARD];
+    int64_t amounts[ELEMENTS + GUARD];
 };
 
 static int kind_of(struct part part, uint64_t *kind)
 {
-    static const char *const letters[] = {"m", "c", "im", "ic"};
-    for (*kind = 0; *kind < 4; ++*kind)
-        if (is(part, letters[*kind]))
+    for (*kind = 0; *kind < KINDS; ++*kind)
+        if (is(part, kinds[*kind]))
             return 1;
     return 0;
 }
@@ -264,52 +275,62 @@ static int last_readings(struct fields *fields, struct readings *readings)
     return 1;
 }
 
-/* What a call answers: the reading in the numbers of trial_read, and the buffer with its guard. What no call sets is 0. */
+/*
+ * What a call answers: the buffer with its guard, and the edition and the readings of a read; there are no readings for any other call. `broken`
+ * where the read wrote what it may not. What no call sets is 0.
+ */
 struct answer {
     uint64_t number, place, low, high;
-    uint64_t reading, below, first, second, third;
     const uint8_t *buffer;
     size_t length;
+    uint64_t edition;
+    const struct readings *readings;
+    int broken;
 };
 
-static void put_signed(struct bytes *output, const struct answer *answer)
+/* Puts a reading as reading_of takes it. */
+static void put_reading(struct bytes *output, const uint64_t numbers[PARTS], int64_t amount)
 {
-    if (answer->below)
-        put_text(output, "-");
-    put_number(output, answer->first);
+    int first = numbers[1] != 0, second = numbers[2] != 0, third = numbers[3] != 0;
+    if (numbers[0] == CODE && !second && !third && amount == 0) {
+        put_text(output, "c");
+        put_number(output, numbers[1]);
+    } else if (numbers[0] == TEXT && !second && !third && amount == 0) {
+        put_text(output, "t");
+        put_number(output, numbers[1]);
+    } else if (numbers[0] == AMOUNT && !first && !third && numbers[2] < KINDS) {
+        put_text(output, "a");
+        put_signed(output, amount);
+        put_text(output, ":");
+        put_text(output, kinds[numbers[2]]);
+    } else if (numbers[0] == PLACE && !first) {
+        put_text(output, "p");
+        put_signed(output, amount);
+        put_text(output, ":");
+        put_number(output, numbers[2]);
+        put_text(output, ":");
+        put_number(output, numbers[3]);
+    } else {
+        put_text(output, "!");
+    }
 }
 
-static void put_reading(struct bytes *output, const struct answer *answer)
+static void put_readings(struct bytes *output, const struct readings *readings)
 {
-    switch (answer->reading) {
-    case MISSING:
-        put_text(output, "missing");
-        break;
-    case CODE:
-        put_text(output, "code ");
-        put_number(output, answer->first);
-        break;
-    case TEXT:
-        put_text(output, "text ");
-        put_number(output, answer->first);
-        break;
-    case AMOUNT:
-        put_text(output, "amount ");
-        put_signed(output, answer);
-        put_text(output, " ");
-        put_text(output, answer->second < 4 ? kinds[answer->second] : "of no kind");
-        break;
-    case PLACE:
-        put_text(output, "place ");
-        put_signed(output, answer);
-        put_text(output, " ");
-        put_number(output, answer->second);
-        put_text(output, " ");
-        put_number(output, answer->third);
-        break;
-    default:
-        put_text(output, "of no case");
+    static const uint64_t missing[PARTS] = {MISSING, 0, 0, 0};
+    const char *before = "";
+    for (size_t i = 0; i < ELEMENTS; i++) {
+        const uint64_t *numbers = &readings->numbers[PARTS * i];
+        if (memcmp(numbers, missing, sizeof missing) == 0 && readings->amounts[i] == 0)
+            continue;
+        put_text(output, before);
+        put_number(output, i + 1);
+        put_text(output, "=");
+        put_reading(output, numbers, readings->amounts[i]);
+        before = " ";
     }
+    if (*before == 0)
+        put_text(output, "-");
 }
 
 static void put_answer(struct bytes *output, const struct answer *answer)
@@ -323,8 +344,14 @@ static void put_answer(struct bytes *output, const struct answer *answer)
     put_word(output, answer->high);
     put_text(output, " ");
     put_hexadecimal(output, answer->buffer, answer->length);
+    if (answer->readings == NULL)
+        return;
     put_text(output, " ");
-    put_reading(output, answer);
+    put_number(output, answer->edition);
+    put_text(output, " ");
+    put_readings(output, answer->readings);
+    if (answer->broken)
+        put_text(output, " !");
 }
 
 /* The lent buffer and its guard, as no record fills them; the part after ROOM belongs to nobody. */
@@ -352,6 +379,72 @@ static void show(struct answer *answer, const struct bytes *record)
         answer->place = CALL_SIGN_COLUMN;
 }
 
+/* What no reading holds, and tells its position. */
+static uint64_t unread_number(size_t i)
+{
+    return UINT64_MAX - i;
+}
+
+static int64_t unread_amount(size_t i)
+{
+    return INT64_MIN + (int64_t)i;
+}
+
+/* Whether all that is lent for the elements after so many, and the guard, is as it was before the call. */
+static int unread_after(const struct readings *readings, size_t elements)
+{
+    for (size_t i = PARTS * elements; i < NUMBERS + GUARD; i++)
+        if (readings->numbers[i] != unread_number(i))
+            return 0;
+    for (size_t i = elements; i < ELEMENTS + GUARD; i++)
+        if (readings->amounts[i] != unread_amount(i))
+            return 0;
+    return 1;
+}
+
+/* How many numbers and amounts are lent to a read: enough or more, or too few of either. */
+struct counts {
+    size_t numbers, amounts;
+};
+
+static const struct counts enough[] = {{NUMBERS, ELEMENTS}, {NUMBERS + 1, ELEMENTS}, {NUMBERS, ELEMENTS + 1}, {NUMBERS + 7, ELEMENTS + 3}};
+
+static const struct counts too_few[] = {{NUMBERS - 1, ELEMENTS}, {NUMBERS, ELEMENTS - 1}, {NUMBERS + 7, 0}, {0, ELEMENTS + 3}};
+
+static uint64_t read_into(struct readings *readings, struct counts lent, const struct bytes *record, uint64_t *edition, uint64_t *place)
+{
+    *edition = *place = UINT64_MAX;
+    return trial_read(record->at, record->length, readings->numbers, lent.numbers, readings->amounts, lent.amounts, edition, place);
+}
+
+/*
+ * Reads a record, about half of them into too few numbers or amounts before. How many are lent goes by the bytes of the record, so that a
+ * request is answered alike wherever it stands.
+ */
+static void read_all(struct answer *answer, const struct bytes *record)
+{
+    static struct readings readings;
+    size_t sum = 0;
+    uint64_t number = 0, edition = 0, place = 0;
+    for (size_t i = 0; i < record->length; i++)
+        sum += record->at[i];
+    for (size_t i = 0; i < NUMBERS + GUARD; i++)
+        readings.numbers[i] = unread_number(i);
+    for (size_t i = 0; i < ELEMENTS + GUARD; i++)
+        readings.amounts[i] = unread_amount(i);
+    int twice = sum / 16 % 2 == 0;
+    if (twice) {
+        number = read_into(&readings, too_few[sum % 4], record, &edition, &place);
+        answer->broken = !unread_after(&readings, 0);
+    }
+    answer->number = read_into(&readings, enough[sum / 4 % 4], record, &answer->edition, &answer->place);
+    answer->readings = &readings;
+    if (!unread_after(&readings, ELEMENTS))
+        answer->broken = 1;
+    if (twice && (number != answer->number || edition != answer->edition || place != answer->place))
+        answer->broken = 1;
+}
+
 /* Makes the call that a request asks for; false where it asks for none. The numbers that a call must set are set to others before. */
 static int call(struct part request, struct answer *answer)
 {
@@ -369,11 +462,9 @@ static int call(struct part request, struct answer *answer)
         answer->place = unset;
         answer->number = immt_check(record.at, record.length, &answer->place);
     } else if (is(name, "r")) {
-        if (!next_number(&fields, &number) || !last_record(&fields, &record))
+        if (!last_record(&fields, &record))
             return 0;
-        answer->place = answer->reading = answer->below = answer->first = answer->second = answer->third = unset;
-        answer->number = trial_read(record.at, record.length, number, &answer->place, &answer->reading, &answer->below, &answer->first,
-                                    &answer->second, &answer->third);
+        read_all(answer, &record);
     } else if (is(name, "s")) {
         if (!last_record(&fields, &record))
             return 0;
@@ -390,7 +481,7 @@ static int call(struct part request, struct answer *answer)
             return 0;
         lend(answer, room);
         answer->place = unset;
-        answer->number = trial_write(readings.numbers, ELEMENTS * PARTS, readings.amounts, ELEMENTS, number, memory, (size_t)room,
+        answer->number = trial_write(readings.numbers, NUMBERS, readings.amounts, ELEMENTS, number, memory, (size_t)room,
                                      &answer->place);
     } else {
         return 0;

@@ -1,6 +1,6 @@
 //! Times ours and the peer's on the same records, in turn, and prints nanoseconds a record and their ratio.
 //!
-//!     bench calls                                     check and recast, as calls
+//!     bench calls                                     check, read and recast, as calls
 //!     bench memory RECORDS DAMAGED                    the recast report of an input in memory, as a call
 //!     bench input RECORDS DAMAGED                     an input of the recast report; one in DAMAGED records has a wrong column (0: none)
 //!     bench report RECORDS DAMAGED INPUT PEER LOADER LIBRARIES OURS     the two programs over that input, processor time
@@ -15,6 +15,7 @@ use std::time::Instant;
 use peer::layout::Edition;
 use peer::plain::last_day;
 use peer::trial::{self, Chance, Limits};
+use peer::{Kind, Place, Reading, Readings, ELEMENTS};
 
 extern "C" {
     fn immt_check(record: *const u8, length: usize, place: *mut u64) -> u64;
@@ -28,6 +29,16 @@ extern "C" {
         lost_low: *mut u64,
         lost_high: *mut u64,
     ) -> u64;
+    fn trial_read(
+        record: *const u8,
+        length: usize,
+        numbers: *mut u64,
+        number_count: usize,
+        amounts: *mut i64,
+        amount_count: usize,
+        edition: *mut u64,
+        place: *mut u64,
+    ) -> u64;
     fn trial_report(
         input: *const u8,
         length: usize,
@@ -39,14 +50,48 @@ extern "C" {
     ) -> u64;
 }
 
-/// What a call answers: number, place and the two words of the losses.
+/// What a call answers: number, place, and the two words of the losses, or the edition in the first of them.
 type Numbers = (u64, u64, u64, u64);
+
+/// What is lent to a call: the buffer of a recast, and four numbers and an amount for each element to a read.
+#[derive(PartialEq)]
+struct Lent {
+    buffer: [u8; 160],
+    numbers: [[u64; 4]; ELEMENTS],
+    amounts: [i64; ELEMENTS],
+}
+
+impl Lent {
+    /// Filled with what no record and no reading holds, so that what is not written shows.
+    fn new() -> Lent {
+        Lent { buffer: [255; 160], numbers: [[u64::MAX; 4]; ELEMENTS], amounts: [i64::MIN; ELEMENTS] }
+    }
+}
 
 fn our_check(record: &[u8]) -> Numbers {
     let mut place = 0;
     // The slice is readable for its length, and the place is a number of our own.
     let number = unsafe { immt_check(record.as_ptr(), record.len(), &mut place) };
     (number, place, 0, 0)
+}
+
+fn our_read(record: &[u8], lent: &mut Lent) -> Numbers {
+    let (mut edition, mut place) = (0, 0);
+    let numbers = lent.numbers.as_flattened_mut();
+    // The slices do not overlap, and the edition and the place are numbers of our own.
+    let number = unsafe {
+        trial_read(
+            record.as_ptr(),
+            record.len(),
+            numbers.as_mut_ptr(),
+            numbers.len(),
+            lent.amounts.as_mut_ptr(),
+            lent.amounts.len(),
+            &mut edition,
+            &mut place,
+        )
+    };
+    (number, place, edition, 0)
 }
 
 fn our_recast(record: &[u8], edition: u64, buffer: &mut [u8]) -> Numbers {
@@ -70,6 +115,42 @@ fn our_recast(record: &[u8], edition: u64, buffer: &mut [u8]) -> Numbers {
 fn their_check(record: &[u8]) -> Numbers {
     let answer = peer::check(record);
     (answer.number, answer.place, 0, 0)
+}
+
+/// A reading as ours leaves it: the case, the code or text, the kind or longitude, the digit; and the amount or latitude.
+fn packed(reading: Reading) -> ([u64; 4], i64) {
+    match reading {
+        Reading::Missing => ([0; 4], 0),
+        Reading::Code(value) => ([1, value, 0, 0], 0),
+        Reading::Text(value) => ([2, value, 0, 0], 0),
+        Reading::Amount(value, kind) => {
+            let kind = match kind {
+                Kind::Measured => 0,
+                Kind::Computed => 1,
+                Kind::IcedMeasured => 2,
+                Kind::IcedComputed => 3,
+            };
+            ([3, 0, kind, 0], value)
+        }
+        Reading::Place(Place { latitude, longitude, digit }) => ([4, 0, longitude, digit], latitude),
+    }
+}
+
+/// Writes every number and amount that is lent, as ours does.
+fn their_read(record: &[u8], lent: &mut Lent) -> Numbers {
+    match &peer::read(record) {
+        Ok(Readings { edition, all }) => {
+            for ((&reading, numbers), amount) in all.iter().zip(&mut lent.numbers).zip(&mut lent.amounts) {
+                (*numbers, *amount) = packed(reading);
+            }
+            (0, 0, edition.number(), 0)
+        }
+        Err(refusal) => {
+            lent.numbers.fill([0; 4]);
+            lent.amounts.fill(0);
+            (refusal.number, refusal.place, 0, 0)
+        }
+    }
 }
 
 fn their_recast(record: &[u8], edition: u64, buffer: &mut [u8]) -> Numbers {
@@ -113,44 +194,59 @@ fn round(records: &[Vec<u8>], run: &mut dyn FnMut(&[u8]) -> Numbers) -> f64 {
     start.elapsed().as_nanos() as f64 / records.len() as f64
 }
 
+/// The calls that are timed; a recast goes to the edition of this number.
+#[derive(Clone, Copy)]
+enum Call {
+    Check,
+    Read,
+    Recast(u64),
+}
+
 /// A call on some records, and the best of its rounds so far, ours and the peer's.
 struct Case {
     name: String,
     records: Rc<Vec<Vec<u8>>>,
-    /// The edition that is recast to; none where the record is checked.
-    to: Option<u64>,
+    call: Call,
     ours: f64,
     theirs: f64,
 }
 
 impl Case {
-    fn new(name: String, records: &Rc<Vec<Vec<u8>>>, to: Option<u64>) -> Case {
-        Case { name, records: Rc::clone(records), to, ours: f64::INFINITY, theirs: f64::INFINITY }
+    fn new(name: String, records: &Rc<Vec<Vec<u8>>>, call: Call) -> Case {
+        Case { name, records: Rc::clone(records), call, ours: f64::INFINITY, theirs: f64::INFINITY }
     }
 
-    fn ours(&self, record: &[u8], buffer: &mut [u8]) -> Numbers {
-        self.to.map_or_else(|| our_check(record), |to| our_recast(record, to, buffer))
+    fn ours(&self, record: &[u8], lent: &mut Lent) -> Numbers {
+        match self.call {
+            Call::Check => our_check(record),
+            Call::Read => our_read(record, lent),
+            Call::Recast(to) => our_recast(record, to, &mut lent.buffer),
+        }
     }
 
-    fn theirs(&self, record: &[u8], buffer: &mut [u8]) -> Numbers {
-        self.to.map_or_else(|| their_check(record), |to| their_recast(record, to, buffer))
+    fn theirs(&self, record: &[u8], lent: &mut Lent) -> Numbers {
+        match self.call {
+            Call::Check => their_check(record),
+            Call::Read => their_read(record, lent),
+            Call::Recast(to) => their_recast(record, to, &mut lent.buffer),
+        }
     }
 
-    /// Both answer the same, and leave the same in the lent buffer.
+    /// Both answer the same, and leave the same in what is lent.
     fn agree(&self) {
         for record in self.records.iter() {
-            let (mut a, mut b) = ([0u8; 160], [0u8; 160]);
+            let (mut a, mut b) = (Lent::new(), Lent::new());
             assert_eq!(self.ours(record, &mut a), self.theirs(record, &mut b), "the two differ");
-            assert_eq!(a, b, "the two leave another buffer");
+            assert!(a == b, "the two leave another buffer or other readings");
         }
     }
 
     /// Rounds over the records, in turn, so that what else the machine does falls on both.
     fn time(&mut self, rounds: usize) {
-        let mut buffer = [0u8; 160];
+        let mut lent = Lent::new();
         for _ in 0..rounds {
-            let ours = round(&self.records, &mut |record| self.ours(record, &mut buffer));
-            let theirs = round(&self.records, &mut |record| self.theirs(record, &mut buffer));
+            let ours = round(&self.records, &mut |record| self.ours(record, &mut lent));
+            let theirs = round(&self.records, &mut |record| self.theirs(record, &mut lent));
             self.ours = self.ours.min(ours);
             self.theirs = self.theirs.min(theirs);
         }
@@ -167,8 +263,11 @@ fn calls() {
         for edition in Edition::ALL {
             let records = Rc::new(records(&mut chance, &limits, edition, COUNT, damaged));
             let from = edition.number();
-            cases.push(Case::new(format!("check, edition {from}, {word}"), &records, None));
-            cases.extend([1, 3, 4].map(|to| Case::new(format!("recast {from} to {to}, {word}"), &records, Some(to))));
+            cases.push(Case::new(format!("check, edition {from}, {word}"), &records, Call::Check));
+            cases.push(Case::new(format!("read all, edition {from}, {word}"), &records, Call::Read));
+            cases.extend(
+                [1, 3, 4].map(|to| Case::new(format!("recast {from} to {to}, {word}"), &records, Call::Recast(to))),
+            );
         }
     }
     cases.iter().for_each(Case::agree);

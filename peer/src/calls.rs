@@ -6,40 +6,47 @@
 //! | Request | Call |
 //! |---|---|
 //! | `c RECORD` | check |
-//! | `r ELEMENT RECORD` | read one element |
+//! | `r RECORD` | check and read |
 //! | `s RECORD` | show the call sign |
 //! | `t EDITION ROOM RECORD` | recast to an edition into a lent buffer of so many bytes |
 //! | `w EDITION ROOM READINGS` | write from 101 readings into a lent buffer of so many bytes |
 //! | `d EDITION YEAR` | check, for every day of every month of a year |
 //!
-//! EDITION and ELEMENT are whole numbers from 0 to 2^64 - 1 in decimal, ROOM one from 0 to 4096. RECORD is the bytes in
-//! hexadecimal, two lower-case digits each, or `-` where there is none. READINGS are fields of the form `ELEMENT=READING`
-//! for the elements that are not missing, or `-` where all are; a reading is `cVALUE` (code), `tVALUE` (text),
+//! EDITION is a whole number from 0 to 2^64 - 1 in decimal, ROOM one from 0 to 4096. RECORD is the bytes in hexadecimal,
+//! two lower-case digits each, or `-` where there is none. READINGS are fields of the form `ELEMENT=READING` for those of
+//! the elements 1 to 101 that are not missing, or `-` where all are; a reading is `cVALUE` (code), `tVALUE` (text),
 //! `aVALUE:KIND` (amount; KIND is `m` measured, `c` computed, `im` iced measured, `ic` iced computed) or
 //! `pLATITUDE:LONGITUDE:DIGIT` (place). For `d` EDITION is 1, 3 or 4, and YEAR is four digits, or `-` for a blank year.
 //!
-//! One answer a line, always six parts parted by one blank but for `d`:
+//! One answer a line, its parts parted by one blank:
 //!
-//! `NUMBER PLACE LOW HIGH BUFFER READING`
+//! | Request | Answer |
+//! |---|---|
+//! | `c`, `s`, `t`, `w` | `NUMBER PLACE LOW HIGH BUFFER` |
+//! | `r` | `NUMBER PLACE LOW HIGH BUFFER EDITION READINGS` |
+//! | `d` | `DAYS` thirteen times, for the blank month and each month from 01 |
+//! | anything else | `?` |
 //!
-//! NUMBER and PLACE are decimal, LOW and HIGH the two words of the loss set as 16 hexadecimal digits each. READING is
-//! `missing`, `code V`, `text V`, `amount V measured` (or `computed`, `iced measured`, `iced computed`) or `place LATITUDE LONGITUDE DIGIT`.
-//! BUFFER is `-` but for three calls. For `t` and `w` it is the memory after the call in hexadecimal: the lent ROOM bytes and 16
-//! guard bytes beyond them, byte I (from 0) of both having been 128 + I mod 128 before the call. For `s` it is the bytes
-//! shown (`-` where none), and PLACE is then the column where they begin in the caller's own record (0 where none);
-//! NUMBER, LOW and HIGH are 0. A request that is none of these is answered with `?`.
+//! NUMBER and PLACE are decimal, LOW and HIGH the two words of the loss set as 16 hexadecimal digits each. BUFFER is `-`
+//! but for three calls. For `t` and `w` it is the memory after the call in hexadecimal: the lent ROOM bytes and 16 guard
+//! bytes beyond them, byte I (from 0) of both having been 128 + I mod 128 before the call. For `s` it is the bytes shown
+//! (`-` where none), and PLACE is then the column where they begin in the caller's own record (0 where none); NUMBER, LOW
+//! and HIGH are 0.
 //!
-//! The answer to `d` is thirteen parts parted by one blank, one for the blank month and each month from 01, of 32 characters
-//! each, one for the blank day and each day from 01. The record that is checked is one of the edition with 3 in column 1, the
-//! year, that month and that day, blank elsewhere. The character is `.` where it is accepted, `x` where the answer is refusal
-//! 7 at place 10, and `?` where it is any other.
+//! For `r` EDITION is the number of the record's edition, 0 where the record is refused. READINGS are the fields that a
+//! `w` takes, the elements rising, so that what a read answers can be handed to a write. Both stand there whatever NUMBER
+//! is: a refused record has no readings, and one that was left shows.
+//!
+//! For `d` DAYS are 32 characters, one for the blank day and each day from 01. The record that is checked is one of the
+//! edition with 3 in column 1, the year, that month and that day, blank elsewhere. The character is `.` where it is
+//! accepted, `x` where the answer is refusal 7 at place 10, and `?` where it is any other.
 
 use std::io::{self, BufRead, Write};
 
 use crate::layout::{span, Edition, ELEMENTS};
 use crate::reading::{Kind, Place, Reading};
-use crate::report::{put_number, put_reading};
-use crate::Answer;
+use crate::report::{put_number, put_signed};
+use crate::{Answer, Readings};
 
 const GUARD: usize = 16;
 const MOST_ROOM: usize = 4096;
@@ -48,7 +55,7 @@ const MOST_ROOM: usize = 4096;
 #[derive(Clone, PartialEq, Debug)]
 pub enum Call {
     Check(Vec<u8>),
-    Read(u64, Vec<u8>),
+    Read(Vec<u8>),
     Show(Vec<u8>),
     Recast(u64, usize, Vec<u8>),
     Write(u64, usize, Box<[Reading; ELEMENTS]>),
@@ -161,7 +168,7 @@ impl Call {
         let mut fields = line.split(' ');
         let call = match fields.next()? {
             "c" => Call::Check(bytes_of(fields.next()?)?),
-            "r" => Call::Read(number_of(fields.next()?)?, bytes_of(fields.next()?)?),
+            "r" => Call::Read(bytes_of(fields.next()?)?),
             "s" => Call::Show(bytes_of(fields.next()?)?),
             "t" => Call::Recast(number_of(fields.next()?)?, room_of(fields.next()?)?, bytes_of(fields.next()?)?),
             "w" => {
@@ -190,8 +197,8 @@ impl Call {
                 numbers(output, b'c', &[]);
                 put_bytes(output, record);
             }
-            Call::Read(element, record) => {
-                numbers(output, b'r', &[*element]);
+            Call::Read(record) => {
+                numbers(output, b'r', &[]);
                 put_bytes(output, record);
             }
             Call::Show(record) => {
@@ -204,31 +211,7 @@ impl Call {
             }
             Call::Write(edition, room, readings) => {
                 numbers(output, b'w', &[*edition, *room as u64]);
-                let mut fields = Vec::new();
-                for (index, reading) in readings.iter().enumerate() {
-                    let element = index + 1;
-                    match *reading {
-                        Reading::Missing => {}
-                        Reading::Code(value) => fields.push(format!("{element}=c{value}")),
-                        Reading::Text(value) => fields.push(format!("{element}=t{value}")),
-                        Reading::Amount(value, kind) => {
-                            let kind = match kind {
-                                Kind::Measured => "m",
-                                Kind::Computed => "c",
-                                Kind::IcedMeasured => "im",
-                                Kind::IcedComputed => "ic",
-                            };
-                            fields.push(format!("{element}=a{value}:{kind}"));
-                        }
-                        Reading::Place(Place { latitude, longitude, digit }) => {
-                            fields.push(format!("{element}=p{latitude}:{longitude}:{digit}"));
-                        }
-                    }
-                }
-                if fields.is_empty() {
-                    fields.push("-".to_string());
-                }
-                output.extend_from_slice(fields.join(" ").as_bytes());
+                put_readings(output, readings);
             }
             Call::Calendar(edition, year) => {
                 numbers(output, b'd', &[edition.number()]);
@@ -242,7 +225,17 @@ impl Call {
     pub fn put_answer(&self, output: &mut Vec<u8>) {
         match self {
             Call::Check(record) => put_answer(output, crate::check(record), &[]),
-            Call::Read(element, record) => put_answer(output, crate::read(record, *element), &[]),
+            Call::Read(record) => {
+                let (answer, edition, all) = match crate::read(record) {
+                    Ok(Readings { edition, all }) => (Answer::done(), edition.number(), all),
+                    Err(refusal) => (refusal, 0, [Reading::Missing; ELEMENTS]),
+                };
+                put_answer(output, answer, &[]);
+                output.push(b' ');
+                put_number(output, edition);
+                output.push(b' ');
+                put_readings(output, &all);
+            }
             Call::Show(record) => {
                 let shown = crate::show_call_sign(record);
                 let place = match shown.is_empty() {
@@ -264,6 +257,7 @@ impl Call {
             }
             Call::Calendar(edition, year) => put_calendar(output, *edition, year),
         }
+        output.push(b'\n');
     }
 }
 
@@ -282,9 +276,58 @@ fn put_answer(output: &mut Vec<u8>, answer: Answer, buffer: &[u8]) {
     put_word(output, answer.lost[1]);
     output.push(b' ');
     put_bytes(output, buffer);
-    output.push(b' ');
-    put_reading(output, answer.reading);
-    output.push(b'\n');
+}
+
+/// Puts the fields of the readings that are not missing, or `-` where all are.
+fn put_readings(output: &mut Vec<u8>, readings: &[Reading; ELEMENTS]) {
+    let start = output.len();
+    for (element, &reading) in (1..).zip(readings) {
+        if reading == Reading::Missing {
+            continue;
+        }
+        if output.len() > start {
+            output.push(b' ');
+        }
+        put_number(output, element);
+        output.push(b'=');
+        put_reading(output, reading);
+    }
+    if output.len() == start {
+        output.push(b'-');
+    }
+}
+
+/// Puts a reading as `reading_of` takes it; nothing for a missing one.
+fn put_reading(output: &mut Vec<u8>, reading: Reading) {
+    match reading {
+        Reading::Missing => {}
+        Reading::Code(value) => {
+            output.push(b'c');
+            put_number(output, value);
+        }
+        Reading::Text(value) => {
+            output.push(b't');
+            put_number(output, value);
+        }
+        Reading::Amount(value, kind) => {
+            output.push(b'a');
+            put_signed(output, value);
+            output.extend_from_slice(match kind {
+                Kind::Measured => b":m",
+                Kind::Computed => b":c",
+                Kind::IcedMeasured => b":im",
+                Kind::IcedComputed => b":ic",
+            });
+        }
+        Reading::Place(Place { latitude, longitude, digit }) => {
+            output.push(b'p');
+            put_signed(output, latitude);
+            output.push(b':');
+            put_number(output, longitude);
+            output.push(b':');
+            put_number(output, digit);
+        }
+    }
 }
 
 /// Two digits, or two blanks for 0.
@@ -301,6 +344,9 @@ fn put_calendar(output: &mut Vec<u8>, edition: Edition, year: &[u8; 4]) {
     record[110] = edition.digit();
     record[span(2)].copy_from_slice(year);
     for month in 0..=12 {
+        if month > 0 {
+            output.push(b' ');
+        }
         record[span(3)].copy_from_slice(&two_digits(month));
         for day in 0..=31 {
             record[span(4)].copy_from_slice(&two_digits(day));
@@ -311,7 +357,6 @@ fn put_calendar(output: &mut Vec<u8>, edition: Edition, year: &[u8; 4]) {
                 _ => b'?',
             });
         }
-        output.push(if month < 12 { b' ' } else { b'\n' });
     }
 }
 

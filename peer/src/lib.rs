@@ -14,20 +14,19 @@ pub mod writing;
 pub use layout::{Edition, ELEMENTS};
 pub use reading::{Kind, Place, Reading};
 
-/// What a call answers: number 0 for success, else the refusal; the place; the reading, missing but for a successful
-/// read; and the elements lost, element 1 in bit 0 of the first word and element 65 in bit 0 of the second.
+/// What a call answers: number 0 for success, else the refusal; the place; and the elements lost, element 1 in bit 0 of
+/// the first word and element 65 in bit 0 of the second.
 #[derive(Clone, Copy, PartialEq, Eq, Debug)]
 pub struct Answer {
     pub number: u64,
     pub place: u64,
-    pub reading: Reading,
     pub lost: [u64; 2],
 }
 
 impl Answer {
     #[inline]
     pub const fn refused(number: u64, place: u64) -> Answer {
-        Answer { number, place, reading: Reading::Missing, lost: [0, 0] }
+        Answer { number, place, lost: [0, 0] }
     }
 
     #[inline]
@@ -56,15 +55,21 @@ pub fn check(record: &[u8]) -> Answer {
     }
 }
 
-/// Reads one element by its number: refusals 1 to 7, then 11.
-pub fn read(record: &[u8], element: u64) -> Answer {
-    let Some(edition) = quick::accepted(record) else {
-        return plain::check(record);
-    };
-    if element < 1 || element > edition.last_element() as u64 {
-        return Answer::refused(11, 0);
+/// What an accepted record says: its edition, and the reading of every element, missing where the edition lacks it.
+/// `all[0]` is the reading of element 1.
+#[derive(Clone, PartialEq, Eq, Debug)]
+pub struct Readings {
+    pub edition: Edition,
+    pub all: [Reading; ELEMENTS],
+}
+
+/// Checks a record and reads it: either the refusal, 1 to 7, or all the readings.
+#[inline]
+pub fn read(record: &[u8]) -> Result<Readings, Answer> {
+    match quick::accepted(record) {
+        Some(edition) => Ok(Readings { edition, all: reading::readings(edition, record) }),
+        None => Err(plain::check(record)),
     }
-    Answer { reading: reading::reading(edition, record, element as usize), ..Answer::done() }
 }
 
 /// The call sign as the part of the caller's own record from column 72 to its last character that is not blank;

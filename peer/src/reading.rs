@@ -1,7 +1,7 @@
 //! What the text of an element says, and the text that says a reading.
 
-use crate::layout::{blank, text, width, Edition};
-use crate::plain::{legal, number};
+use crate::layout::{blank, span, text, width, Edition, ELEMENTS};
+use crate::plain::{legal, number, SIGNS};
 
 /// How an amount came about.
 #[derive(Clone, Copy, PartialEq, Eq, Debug)]
@@ -123,6 +123,61 @@ pub fn reading(edition: Edition, record: &[u8], element: usize) -> Reading {
     }
 }
 
+/// What an element of one column reads as, by its byte.
+static ONE_COLUMN: [Reading; 256] = {
+    let mut readings = [Reading::Missing; 256];
+    let mut byte = b'!';
+    while byte <= b'~' {
+        readings[byte as usize] = match byte {
+            b'0'..=b'9' => Reading::Code((byte - b'0') as u64),
+            _ => Reading::Text(byte as u64),
+        };
+        byte += 1;
+    }
+    readings
+};
+
+/// The elements of two, three and four columns that read as a code, their digits as they stand.
+const TWO_COLUMNS: [usize; 18] = [3, 4, 5, 11, 13, 15, 21, 32, 33, 34, 35, 36, 38, 56, 57, 58, 89, 90];
+const THREE_COLUMNS: [usize; 6] = [48, 53, 87, 88, 92, 93];
+const FOUR_COLUMNS: [usize; 1] = [2];
+
+/// Reads some of these elements, all of the same width, out of an accepted record.
+#[inline(always)]
+fn put_codes<const WIDTH: usize>(elements: &[usize], record: &[u8], all: &mut [Reading; ELEMENTS]) {
+    for &element in elements {
+        let start = span(element).start;
+        // The edition may lack the last of them.
+        let Some(columns) = record.get(start..start + WIDTH) else { return };
+        let value = columns.iter().fold(0, |value, byte| 10 * value + u64::from(byte & 15));
+        all[element - 1] = if columns[0] == b' ' { Reading::Missing } else { Reading::Code(value) };
+    }
+}
+
+/// The readings of all elements of an accepted record, missing where the edition lacks the element: what `reading` says
+/// of each, with most of them read by their width alone and only the rest by that rule.
+pub fn readings(edition: Edition, record: &[u8]) -> [Reading; ELEMENTS] {
+    let mut all = [Reading::Missing; ELEMENTS];
+    // An accepted element is blank where its first column is.
+    for (element, slot) in (1..).zip(&mut all[..edition.last_element()]) {
+        *slot = ONE_COLUMN[usize::from(record[span(element).start])];
+    }
+    put_codes::<2>(&TWO_COLUMNS, record, &mut all);
+    put_codes::<3>(&THREE_COLUMNS, record, &mut all);
+    put_codes::<4>(&FOUR_COLUMNS, record, &mut all);
+    all[5..8].fill(reading(edition, record, 6));
+    for sign in SIGNS {
+        all[sign - 1..=sign].fill(reading(edition, record, sign));
+    }
+    for element in [20, 42, 43, 44] {
+        all[element - 1] = reading(edition, record, element);
+    }
+    if edition != Edition::One {
+        all[90] = reading(edition, record, 91);
+    }
+    all
+}
+
 /// Spells a number in the digits of all the columns; nothing where it does not fit.
 fn spell(mut value: u64, columns: &mut [u8]) -> Option<()> {
     for column in columns.iter_mut().rev() {
@@ -168,14 +223,14 @@ fn put_place(edition: Edition, place: Place, record: &mut [u8]) -> Option<()> {
         return None;
     }
     record[11] = b'0' + place.digit as u8;
-    spell(latitude, &mut record[crate::layout::span(7)])?;
-    spell(longitude, &mut record[crate::layout::span(8)])
+    spell(latitude, &mut record[span(7)])?;
+    spell(longitude, &mut record[span(8)])
 }
 
 /// Puts the legal text of an element, or of the whole group that the element names, into a record; nothing where no
 /// legal text gives the reading. The record may be left half written then, so the caller writes to a copy.
 pub fn put(edition: Edition, element: usize, reading: Reading, record: &mut [u8]) -> Option<()> {
-    let columns = crate::layout::span(element);
+    let columns = span(element);
     match (element, reading) {
         (_, Reading::Missing) => {
             let last = match element {
@@ -183,14 +238,14 @@ pub fn put(edition: Edition, element: usize, reading: Reading, record: &mut [u8]
                 16 | 18 | 28 | 50 => element + 1,
                 _ => element,
             };
-            record[columns.start..crate::layout::span(last).end].fill(b' ');
+            record[columns.start..span(last).end].fill(b' ');
             (element != 1 && element != 65).then_some(())
         }
         (6, Reading::Place(place)) => put_place(edition, place, record),
         (16 | 18 | 28 | 50, Reading::Amount(value, kind)) => {
             let sign = sign_of(value, kind)?;
             record[columns.start] = sign;
-            spell(value.unsigned_abs(), &mut record[crate::layout::span(element + 1)])?;
+            spell(value.unsigned_abs(), &mut record[span(element + 1)])?;
             legal(edition, element, &[sign]).then_some(())
         }
         (91, Reading::Amount(value, Kind::Measured)) => {

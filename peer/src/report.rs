@@ -2,8 +2,9 @@
 
 use std::io::{self, Read, Write};
 
-use crate::layout::{Edition, ELEMENTS, LONGEST};
+use crate::layout::{Edition, LONGEST};
 use crate::reading::{Kind, Reading};
+use crate::Readings;
 
 /// Large enough that calls to the system are few; a longer line is counted, not kept, for its length alone is refused.
 const ROOM: usize = 1 << 18;
@@ -96,7 +97,7 @@ pub(crate) fn put_number(output: &mut Vec<u8>, mut value: u64) {
     output.extend_from_slice(&digits[start..]);
 }
 
-fn put_signed(output: &mut Vec<u8>, value: i64) {
+pub(crate) fn put_signed(output: &mut Vec<u8>, value: i64) {
     if value < 0 {
         output.push(b'-');
     }
@@ -174,7 +175,7 @@ pub fn recast_report(input: &mut impl Read, sink: &mut impl Write) -> io::Result
 }
 
 /// Appends a reading in words.
-pub fn put_reading(output: &mut Vec<u8>, reading: Reading) {
+fn put_reading(output: &mut Vec<u8>, reading: Reading) {
     match reading {
         Reading::Missing => output.extend_from_slice(b"missing"),
         Reading::Code(value) => {
@@ -206,11 +207,6 @@ pub fn put_reading(output: &mut Vec<u8>, reading: Reading) {
     }
 }
 
-/// The readings of an accepted record, missing where the edition has no such element.
-pub fn all_readings(record: &[u8]) -> [Reading; ELEMENTS] {
-    std::array::from_fn(|index| crate::read(record, index as u64 + 1).reading)
-}
-
 /// What every element of every record reads as that is not missing, the call sign, and whether the record is written
 /// from these readings with its own characters.
 pub fn readings_report(input: &mut impl Read, sink: &mut impl Write) -> io::Result<()> {
@@ -220,21 +216,22 @@ pub fn readings_report(input: &mut impl Read, sink: &mut impl Write) -> io::Resu
     each_line(input, |line| {
         records += 1;
         put_number(&mut output, records);
-        let answer = crate::check(line);
-        if answer.number != 0 {
-            refused += 1;
-            put_refusal(&mut output, answer.number, answer.place);
-            return Ok(true);
-        }
+        let Readings { edition, all } = match crate::read(line) {
+            Ok(readings) => readings,
+            Err(refusal) => {
+                refused += 1;
+                put_refusal(&mut output, refusal.number, refusal.place);
+                return Ok(true);
+            }
+        };
         output.extend_from_slice(b" ok edition ");
-        output.push(line[110]);
+        output.push(edition.digit());
         output.push(b'\n');
-        let readings = all_readings(line);
-        for (index, &reading) in readings.iter().enumerate() {
+        for (element, &reading) in (1..).zip(&all) {
             if reading != Reading::Missing {
                 put_number(&mut output, records);
                 output.push(b' ');
-                put_number(&mut output, index as u64 + 1);
+                put_number(&mut output, element);
                 output.push(b' ');
                 put_reading(&mut output, reading);
                 output.push(b'\n');
@@ -248,7 +245,7 @@ pub fn readings_report(input: &mut impl Read, sink: &mut impl Write) -> io::Resu
             output.push(b'\n');
         }
         let mut written = [0u8; LONGEST];
-        let answer = crate::write(u64::from(line[110] - b'0'), &readings, &mut written);
+        let answer = crate::write(edition.number(), &all, &mut written);
         put_number(&mut output, records);
         if answer.number == 0 && written[..line.len()] == *line {
             output.extend_from_slice(b" written same\n");

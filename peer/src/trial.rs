@@ -4,7 +4,6 @@ use crate::calls::Call;
 use crate::layout::{blank, span, text, width, Edition, ELEMENTS};
 use crate::plain::{last_day, legal, number, octant_holds, SIGNS, TIES};
 use crate::reading::{group, Kind, Place, Reading};
-use crate::report::all_readings;
 
 /// A run of numbers that looks like chance: the splitmix generator.
 pub struct Chance(u64);
@@ -537,26 +536,15 @@ pub fn call(chance: &mut Chance, limits: &Limits, family: Family) -> Call {
     let record = record(chance, limits, family);
     match chance.below(10) {
         0 | 1 => Call::Check(record),
-        2 | 3 => {
-            let element = 1 + chance.below(ELEMENTS) as u64;
-            let element = match chance.below(12) {
-                0 => element + 256,
-                1 => element + (1 << 32),
-                2 => chance.pick(&[0, 85, 86, 101, 102, 105, 65, 129, u64::MAX]),
-                _ => element,
-            };
-            Call::Read(element, record)
-        }
+        2 | 3 => Call::Read(record),
         4 => Call::Show(record),
         5..=7 => Call::Recast(edition_number(chance), room(chance), record),
         _ => {
-            let readings = if crate::check(&record).number == 0 {
-                all_readings(&record)
-            } else {
+            let readings = crate::read(&record).or_else(|_| {
                 let edition = chance.pick(&Edition::ALL);
-                all_readings(&base(chance, limits, edition))
-            };
-            let mut readings = Box::new(readings);
+                crate::read(&base(chance, limits, edition))
+            });
+            let mut readings = Box::new(readings.expect("a base is accepted").all);
             let edition = match readings[64] {
                 Reading::Code(number) if !chance.one_in(6) => number,
                 _ => {

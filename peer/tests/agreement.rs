@@ -3,18 +3,27 @@
 use peer::calls::Call;
 use peer::layout::{span, Edition, LONGEST};
 use peer::plain::{self, TIES};
+use peer::reading::reading as plain_reading;
 use peer::recasting::plain_recast;
-use peer::report::all_readings;
 use peer::trial::{self, Chance, Family, Limits};
-use peer::{check, quick, recast, write, Answer, Place, Reading};
+use peer::{check, quick, read, recast, write, Answer, Place, Reading};
 
 fn agree(record: &[u8]) {
     let answer = plain::check(record);
     let edition = quick::accepted(record);
     assert_eq!(answer.number == 0, edition.is_some(), "{:?}", String::from_utf8_lossy(record));
     assert_eq!(answer, check(record));
-    if let Some(edition) = edition {
-        assert_eq!(edition.digit(), record[110]);
+    match read(record) {
+        Ok(readings) => {
+            assert_eq!(Some(readings.edition), edition);
+            assert_eq!(readings.edition.digit(), record[110]);
+            for (element, &reading) in (1..).zip(&readings.all) {
+                let lacking = element > readings.edition.last_element();
+                let plain = if lacking { Reading::Missing } else { plain_reading(readings.edition, record, element) };
+                assert_eq!(reading, plain, "element {element} of {:?}", String::from_utf8_lossy(record));
+            }
+        }
+        Err(refusal) => assert_eq!(refusal, answer),
     }
 }
 
@@ -294,16 +303,27 @@ fn places_agree_on_every_longitude() {
     }
 }
 
+/// A read answers what the check does, and an accepted record is written from its own readings.
 #[test]
-fn a_record_is_written_from_its_own_readings() {
+fn reads_agree_on_every_family() {
     let limits = Limits::new();
-    let mut chance = Chance::new(10);
-    for _ in 0..20_000 {
-        let record = trial::record(&mut chance, &limits, Family::Typical);
-        let mut buffer = [0; LONGEST];
-        let answer = write(u64::from(record[110] - b'0'), &all_readings(&record), &mut buffer);
-        assert_eq!(answer.number, 0);
-        assert!(buffer[..record.len()] == record[..]);
+    for (index, (name, family)) in Family::ALL.into_iter().enumerate() {
+        let mut chance = Chance::new(200 + index as u64);
+        let mut written = 0;
+        for _ in 0..20_000 {
+            let record = trial::record(&mut chance, &limits, family);
+            agree(&record);
+            let Ok(readings) = read(&record) else {
+                assert!(check(&record).number != 0);
+                continue;
+            };
+            let mut buffer = [0; LONGEST];
+            assert_eq!(write(readings.edition.number(), &readings.all, &mut buffer), Answer::done());
+            assert!(buffer[..record.len()] == record[..]);
+            assert!(buffer[record.len()..].iter().all(|&byte| byte == 0));
+            written += 1;
+        }
+        assert!(written > 60, "{name}: {written} written");
     }
 }
 
@@ -323,7 +343,7 @@ fn what_is_written_reads_as_what_was_given() {
         ties[if answer.number == 7 { answer.place as usize } else { 0 }] += 1;
         if answer.number == 0 {
             let length = Edition::from_number(edition).unwrap().length();
-            assert!(all_readings(&buffer[..length]) == *readings);
+            assert!(read(&buffer[..length]).unwrap().all == *readings);
             assert!(buffer[length..].iter().all(|&byte| byte == 200));
         } else {
             assert!(buffer.iter().all(|&byte| byte == 200));
@@ -355,9 +375,10 @@ fn requests_are_read_as_they_were_asked() {
         call.put_answer(&mut answer);
         assert_eq!(answer.iter().filter(|&&byte| byte == b'\n').count(), 1);
     }
-    for wrong in
-        ["", "c", "c 3", "c 3g", "c 33 33", "r 33", "r -1 33", "t 4 9999 33", "w 4", "w 4 159 102=c1", "x 33", "c  33"]
-    {
+    for wrong in ["", "c", "c 3", "c 3g", "c 33 33", "t 4 9999 33", "w 4", "w 4 159 102=c1", "x 33", "c  33"] {
+        assert_eq!(Call::of_line(wrong), None, "{wrong}");
+    }
+    for wrong in ["r", "r ", "r 3", "r 3g", "r 16 33", "r 33 33", "r  33", "r 33 ", "r - -"] {
         assert_eq!(Call::of_line(wrong), None, "{wrong}");
     }
     for wrong in
@@ -365,6 +386,38 @@ fn requests_are_read_as_they_were_asked() {
     {
         assert_eq!(Call::of_line(wrong), None, "{wrong}");
     }
+}
+
+/// What a read answers is handed to a write as it stands, and gives the record's own bytes.
+#[test]
+fn the_answer_of_a_read_is_the_request_of_a_write() {
+    let limits = Limits::new();
+    let mut chance = Chance::new(15);
+    let answer_of = |request: &str| {
+        let mut answer = Vec::new();
+        Call::of_line(request).unwrap().put_answer(&mut answer);
+        String::from_utf8(answer).unwrap().strip_suffix('\n').unwrap().to_string()
+    };
+    for _ in 0..5_000 {
+        let record = trial::record(&mut chance, &limits, Family::Mixed);
+        let mut request = Vec::new();
+        Call::Read(record.clone()).put_line(&mut request);
+        let answer = answer_of(String::from_utf8(request).unwrap().trim_end());
+        let Answer { number, place, .. } = check(&record);
+        let readings = answer
+            .strip_prefix(&format!("{number} {place} {:016x} {:016x} - ", 0, 0))
+            .unwrap_or_else(|| panic!("{answer}"));
+        if number != 0 {
+            assert_eq!(readings, "0 -");
+            continue;
+        }
+        let (edition, fields) = readings.split_once(' ').unwrap();
+        assert_eq!(edition.as_bytes(), &record[110..111]);
+        let bytes: String = record.iter().map(|byte| format!("{byte:02x}")).collect();
+        let written = answer_of(&format!("w {edition} {} {fields}", record.len()));
+        assert!(written.starts_with(&format!("0 0 {:016x} {:016x} {bytes}", 0, 0)), "{written}");
+    }
+    assert_eq!(answer_of("r -"), format!("1 0 {:016x} {:016x} - 0 -", 0, 0));
 }
 
 #[test]

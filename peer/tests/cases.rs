@@ -1,5 +1,6 @@
 //! The cases P1 to P12 of the document and the points that were settled beside it.
 
+use peer::calls::Call;
 use peer::layout::{span, text, LONGEST};
 use peer::plain::number;
 use peer::report::{readings_report, recast_report};
@@ -21,6 +22,11 @@ fn refusal(record: &[u8]) -> (u64, u64) {
     let answer = check(record);
     assert_eq!(answer, Answer::refused(answer.number, answer.place));
     (answer.number, answer.place)
+}
+
+/// What an element of an accepted record reads as.
+fn reading(record: &[u8], element: usize) -> Reading {
+    read(record).unwrap().all[element - 1]
 }
 
 fn recast_to(record: &[u8], edition: u64) -> (Vec<u8>, Vec<u64>) {
@@ -48,14 +54,14 @@ fn p3_octants() {
 fn p5_signs() {
     assert_eq!(refusal(&record(4, &[(30, "1000")])), (7, 3));
     let cold = record(4, &[(30, "1001")]);
-    assert_eq!(read(&cold, 16).reading, Reading::Amount(-1, Kind::Measured));
-    assert_eq!(read(&cold, 17).reading, Reading::Amount(-1, Kind::Measured));
+    assert_eq!(reading(&cold, 16), Reading::Amount(-1, Kind::Measured));
+    assert_eq!(reading(&cold, 17), Reading::Amount(-1, Kind::Measured));
 }
 
 #[test]
 fn p6_pressure() {
-    assert_eq!(read(&record(4, &[(38, "0132")]), 20).reading, Reading::Code(10132));
-    assert_eq!(read(&record(4, &[(38, "9987")]), 20).reading, Reading::Code(9987));
+    assert_eq!(reading(&record(4, &[(38, "0132")]), 20), Reading::Code(10132));
+    assert_eq!(reading(&record(4, &[(38, "9987")]), 20), Reading::Code(9987));
     assert_eq!(refusal(&record(4, &[(38, "1000")])), (6, 20));
 }
 
@@ -144,7 +150,7 @@ fn the_calendar() {
             let record = record(edition, &[(2, date)]);
             assert_eq!(refusal(&record), expected, "{date}");
             // Every call that checks goes by it.
-            let answer = read(&record, 4);
+            let answer = read(&record).err().unwrap_or(Answer::done());
             assert_eq!((answer.number, answer.place), expected, "{date}");
             for to in [1, 3, 4] {
                 let mut buffer = [7; LONGEST];
@@ -244,13 +250,53 @@ fn refusals_in_order() {
 }
 
 #[test]
+fn a_refused_record_has_no_readings() {
+    // Each in a record that says something, so that there is something to leave out.
+    let said = [(2, "20030614"), (12, "10650795"), (30, "0123"), (72, "ABCDEFG")];
+    let refused = [
+        (record(4, &said)[..158].to_vec(), (1, 0)),
+        (record(4, &[&said[..], &[(20, "\u{7f}")]].concat()), (2, 20)),
+        (record(4, &[&said[..], &[(1, "6")]].concat()), (3, 1)),
+        (record(4, &[&said[..], &[(111, "2")]].concat()), (4, 111)),
+        (record(4, &[&said[..], &[(111, "1")]].concat()), (5, 0)),
+        (record(4, &[&said[..], &[(143, "100")]].concat()), (6, 91)),
+        (record(4, &[&said[..], &[(149, "010")]].concat()), (7, 9)),
+    ];
+    assert!(read(&record(4, &said)).is_ok());
+    for (record, (number, place)) in refused {
+        assert_eq!(read(&record), Err(Answer::refused(number, place)));
+        // In the protocol every reading is missing, and so is the edition.
+        let mut answer = Vec::new();
+        Call::Read(record).put_answer(&mut answer);
+        let expected = format!("{number} {place} {:016x} {:016x} - 0 -\n", 0, 0);
+        assert_eq!(String::from_utf8(answer).unwrap(), expected);
+    }
+}
+
+#[test]
+fn a_read_answers_every_element() {
+    for edition in Edition::ALL {
+        let last = edition.last_element();
+        let plain = read(&record(edition.number(), &[])).unwrap();
+        assert_eq!(plain.edition, edition);
+        assert_eq!(plain.all, readings(edition.number(), &[]));
+        // The last element of the edition reads, and what it lacks is missing.
+        let flagged = record(edition.number(), &[(span(last).start + 1, "5")]);
+        assert_eq!(read(&flagged).unwrap().all, readings(edition.number(), &[(last, Reading::Code(5))]));
+    }
+    // Every flag of edition 1 is there, and none of the elements 86 to 101.
+    let flags = read(&record(1, &[(112, "55555555555555555555")])).unwrap();
+    assert!(flags.all[65..85].iter().all(|&reading| reading == Reading::Code(5)));
+    assert!(flags.all[85..].iter().all(|&reading| reading == Reading::Missing));
+    let flags = read(&record(3, &[(112, "555555555555555555555"), (152, "55555555")])).unwrap();
+    assert!(flags.all[65..86].iter().all(|&reading| reading == Reading::Code(5)));
+    assert!(flags.all[86..93].iter().all(|&reading| reading == Reading::Missing));
+    assert!(flags.all[93..].iter().all(|&reading| reading == Reading::Code(5)));
+}
+
+#[test]
 fn whole_numbers() {
     let plain = record(4, &[]);
-    for element in [0, 102, 257, (1 << 32) + 1, u64::MAX] {
-        assert_eq!(read(&plain, element), Answer::refused(11, 0));
-    }
-    assert_eq!(read(&record(1, &[]), 86), Answer::refused(11, 0));
-    assert_eq!(read(&plain, 86), Answer::done());
     for edition in [0, 2, 5, 6, 52, 260, (1 << 32) + 4, u64::MAX] {
         let mut buffer = [7; 200];
         assert_eq!(recast(&plain, edition, &mut buffer), Answer::refused(8, 0));
@@ -357,7 +403,7 @@ fn every_place_is_recast_to_the_same_place() {
                         assert!(lost.is_empty());
                         assert_eq!(refusal(&second), (0, 0));
                         assert_eq!(second[span(7).start..span(8).end], first[span(7).start..span(8).end]);
-                        let of = |record: &[u8]| match read(record, 6).reading {
+                        let of = |record: &[u8]| match reading(record, 6) {
                             Reading::Place(place) => (place.latitude, place.longitude),
                             other => panic!("{other:?}"),
                         };

@@ -19,9 +19,9 @@ use Rattle.checking.specs.Check.{column, checkedIn, checked}
 use Rattle.reading.specs.declared.Kind.{Kind}
 use Rattle.reading.specs.declared.Kind.the-variants.{Measured, Computed}
 use Rattle.reading.specs.declared.Reading.{Reading}
-use Rattle.reading.specs.declared.Reading.the-variants.{Code, Amount, At}
+use Rattle.reading.specs.declared.Reading.the-variants.{Missing, Code, Amount, At}
 use Rattle.reading.specs.Readings.{plain, temperature, departure, placeOf, itemOf}
-use Rattle.reading.specs.Answers.{readAfter}
+use Rattle.reading.specs.Answers.{entriesFrom, readAfter}
 use Rattle.spelling.specs.Same.{partsOf, same}
 use Rattle.spelling.specs.Spelled.{amountNumeral, placeNumeral, numeralFor, recordOf}
 use Rattle.writing.specs.Written as Written
@@ -181,6 +181,15 @@ worked =
     (write 4 (with-place (at-place (negℤ (pos 3420)) 1825 3)) gives unwritten 6 6) ∷
     (write 4 (with-place (at-place (negℤ (pos 3420)) 35999 5)) gives unwritten 6 6) ∷
     (write 4 (with-place (at-place (negℤ (pos 3420)) 36000 5)) gives unwritten 6 6) ∷
+    -- R-6: the last element of each edition is read, and what an edition lacks is missing
+    (read 85 (at 131 "1" edition1) gives is (Code 1)) ∷
+    (read 86 (at 131 "1" edition1) gives is Missing) ∷
+    (read 101 edition1 gives is Missing) ∷
+    (read 101 (at 159 "5" edition3) gives is (Code 5)) ∷
+    (read 101 (at 159 "7" edition4) gives is (Code 7)) ∷
+    -- a refused record has no readings; 6 before 7
+    (read 20 (at 38 "0132" (at 30 "1000" edition4)) gives refused 7 3) ∷
+    (read 17 (at 38 "1000" (at 30 "1000" edition4)) gives refused 6 20) ∷
     []
 
 abbrev pub cases : List Case
@@ -190,5 +199,5 @@ abbrev pub answers : List Result
 answers = map (λ w. w .answered) worked
 
 pub worked-cases : map answer cases ≡ answers
-unfolding answer lent at edition1 edition3 edition4 bytesOf spelled checked checkedIn column legal allows every valueFrom run textOf startOf columns element page tie firstBroken firstFrom octantTie octantFits placeTie signTie digitTie lastDigit windTie dayTie latestDay leaps lastDay readAfter itemOf plain temperature south west placeAt latitudeFigure longitudeFigure recastAfter recastTo recastIn lossesOf word elements hasLoss keeps lostText senseOf platformSense hemisphere lowestDigit suits leftAfter leftTo filledBy recastRecord recordFrom rowFrom recastText widened Written.writtenAs Written.writtenIn Written.afterAs Written.filledBy Written.writes recordOf numeralFor amountNumeral placeNumeral same partsOf placeOf departure missing said
+unfolding answer lent at edition1 edition3 edition4 bytesOf spelled checked checkedIn column legal allows every valueFrom run textOf startOf columns element page tie firstBroken firstFrom octantTie octantFits placeTie signTie digitTie lastDigit windTie dayTie latestDay leaps lastDay readAfter entriesFrom itemOf plain temperature south west placeAt latitudeFigure longitudeFigure recastAfter recastTo recastIn lossesOf word elements hasLoss keeps lostText senseOf platformSense hemisphere lowestDigit suits leftAfter leftTo filledBy recastRecord recordFrom rowFrom recastText widened Written.writtenAs Written.writtenIn Written.afterAs Written.filledBy Written.writes recordOf numeralFor amountNumeral placeNumeral same partsOf placeOf departure missing said
 worked-cases = refl

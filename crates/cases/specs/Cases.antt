@@ -9,10 +9,10 @@ use Rattle.numerals.specs.Spelling.{placed, spelled}
 use Rattle.losses.specs.Losses.{lostList, hasLoss}
 use Rattle.checking.specs.declared.Answer.{Answer}
 use Rattle.checking.specs.Check.{checked, answerNumber, answerPlace}
-use Rattle.reading.specs.declared.Found.{Found}
 use Rattle.reading.specs.declared.Reading.{Reading}
 use Rattle.reading.specs.declared.Reading.the-variants.{Missing}
-use Rattle.reading.specs.Answers.{readOf, foundNumber, foundPlace, foundReading}
+use Rattle.reading.specs.declared.Readings.{Readings}
+use Rattle.reading.specs.Answers.{readOf, readAs}
 use Rattle.writing.specs.declared.Outcome as WriteOutcome
 use Rattle.writing.specs.Written as Written
 use Rattle.recasting.specs.declared.Outcome.{Outcome}
@@ -48,7 +48,8 @@ wholes = at 1 "5" edition4
 abbrev pub position : String → String → String → List ℕ → List ℕ
 position digit latitude longitude xs = at 12 digit (at 13 latitude (at 16 longitude xs))
 
--- a record, and what is asked of it: to check it, to read the element of that number, to recast it to the edition of that number; or readings, to be written
+-- a record, and what is asked of it: to check it, to read it and say what the element of that number is, to recast it to the edition of that number; or
+-- readings, to be written
 pub data Case : Type 0 where
   check : List ℕ → Case
   read : ℕ → List ℕ → Case
@@ -73,8 +74,8 @@ result n p r ls xs = record { number = n; place = p; reading = r; lost = ls; buf
 abbrev pub ofAnswer : Answer → Result
 ofAnswer a = result (answerNumber a) (answerPlace a) Missing [] []
 
-abbrev pub ofFound : Found → Result
-ofFound f = result (foundNumber f) (foundPlace f) (foundReading f) [] []
+abbrev pub ofReadings : Readings → ℕ → Result
+ofReadings all e = result (answerNumber (all .answer)) (answerPlace (all .answer)) (readAs (all .entries) e) [] []
 
 abbrev pub ofOutcome : Outcome → List ℕ → Result
 ofOutcome o after = result (outcomeNumber o) (outcomePlace o) Missing (lostList (hasLoss (outcomeLosses o))) after
@@ -85,7 +86,7 @@ ofWritten o after = result (Written.outcomeNumber o) (Written.outcomePlace o) Mi
 -- what the calls' own definitions answer
 unfoldable pub answer : Case → Result
 answer (check xs) = ofAnswer (checked xs)
-answer (read e xs) = ofFound (readOf xs e)
+answer (read e xs) = ofReadings (readOf xs) e
 answer (recast n xs) = ofOutcome (recastOf xs n (length lent)) (leftOf xs n lent)
 answer (write n rs) = ofWritten (Written.written rs n (length lent)) (Written.after rs n lent)
 

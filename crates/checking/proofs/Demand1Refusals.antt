@@ -1,7 +1,7 @@
 -- Demand 1: bad input gets the refusal that document 01 fixes, in its order, with its place. Assumes nothing.
 --     refused-exactly   check answers refusal n with place p exactly when rule n fails at p, every earlier rule holds, and the same rule holds at every
 --                       lower place
---     only-one          two answers that fit a record are equal
+--     fits, only-one    what check answers fits the record; two answers that fit are equal
 use mathlib.Core.Path.{_≡_, sym, ap, _∙_}
 use mathlib.Core.Logic.{_↔_}
 use mathlib.Core.List.{List}
@@ -43,6 +43,15 @@ module _ (xs : List ℕ) where
   unfolding Fits
   given (Accepted ed) f = accepted-exactly xs ed .1 f
   given (Refused r) f = let e = refused-exactly (numberOf r) (placeOf r) (numbered r) .1 f in is-refused (checked xs) r (e .0) (e .1)
+
+  -- what check answers fits
+  fitting : (a : Answer) → Told xs a → Fits xs a
+  unfolding Told
+  fitting (Accepted ed) t = t .0
+  fitting (Refused r) t = t
+
+  pub fits : Fits xs (checked xs)
+  fits = fitting (checked xs) (told xs)
 
   pub only-one : (a b : Answer) → Fits xs a → Fits xs b → a ≡ b
   only-one a b f g = sym (given a f) ∙ given b g

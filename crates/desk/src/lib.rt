@@ -4,14 +4,16 @@
 // number behind a pointer is part of the answer and is set at every call.
 ghost use mathlib.Core.Path.{_≡_};
 ghost use lib.ListN.{length};
-ghost use Rattle.checking.specs.Check.{checked, answerNumber, answerPlace};
+ghost use Rattle.checking.specs.Check.{answerNumber, answerPlace};
+ghost use Rattle.reading.specs.Answers.{readOf};
 ghost use Rattle.recasting.specs.Recast.{recastOf, leftOf, outcomeNumber, outcomePlace, outcomeLosses};
 
-// Checks a record: the refusal's number, 0 where it is accepted, and the place.
+// Checks a record: the refusal's number, 0 where it is accepted, and the place, as reading it answers.
+// The readings are not made: the compiler does not drop those that nobody asks for.
 #[no_mangle]
 pub extern "C" fn immt_check(line: &[u8], place: &mut u64) -> u64
-    ensures { λ r. ⌜ r ≡ answerNumber (checked (now (line .entry))) ⌝ }
-    ensures { λ r. ⌜ now (place .exit) ≡ answerPlace (checked (now (line .entry))) ⌝ }
+    ensures { λ r. ⌜ r ≡ answerNumber (readOf (now (line .entry)) .answer) ⌝ }
+    ensures { λ r. ⌜ now (place .exit) ≡ answerPlace (readOf (now (line .entry)) .answer) ⌝ }
 {
     let answer = checking::check(line);
     let at = answer.place();

@@ -5,7 +5,7 @@ use mathlib.Core.List.{List, [], _∷_}
 use Prim.Native.Nat.{ℕ, _<_}
 use lib.Dec.{eqb, lit<}
 use Rattle.layout.specs.declared.Refusal.{Refusal}
-use Rattle.layout.specs.declared.Refusal.the-variants.{Length, Unprintable, Format, Version, EditionLength, Illegal, Broken, Unheld, Room, NoElement}
+use Rattle.layout.specs.declared.Refusal.the-variants.{Length, Unprintable, Format, Version, EditionLength, Illegal, Broken, Unheld, Room}
 use Rattle.layout.specs.Refusals.{numberOf, placeOf}
 
 -- every refusal, with the place that it is given
@@ -20,7 +20,6 @@ refusals =
     Broken ∷
     (λ p. Unheld) ∷
     (λ p. Room) ∷
-    (λ p. NoElement) ∷
     []
 
 -- the first of them that has the number
@@ -42,7 +41,6 @@ back (Illegal e) = refl
 back (Broken k) = refl
 back Unheld = refl
 back Room = refl
-back NoElement = refl
 
 pub same-refusal : (r s : Refusal) → numberOf r ≡ numberOf s → placeOf r ≡ placeOf s → r ≡ s
 same-refusal r s e f = sym (back r) ∙ ap (λ (n : ℕ). by-number n (placeOf r)) e ∙ ap (by-number (numberOf s)) f ∙ back s
@@ -58,4 +56,3 @@ numbered (Illegal e) = lit< tt
 numbered (Broken k) = lit< tt
 numbered Unheld = lit< tt
 numbered Room = lit< tt
-numbered NoElement = lit< tt

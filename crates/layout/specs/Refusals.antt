@@ -1,7 +1,7 @@
 -- Document 01's table of refusals: the number and the place of each. Assumes nothing.
 use Prim.Native.Nat.{ℕ}
 use Rattle.layout.specs.declared.Refusal.{Refusal}
-use Rattle.layout.specs.declared.Refusal.the-variants.{Length, Unprintable, Format, Version, EditionLength, Illegal, Broken, Unheld, Room, NoElement}
+use Rattle.layout.specs.declared.Refusal.the-variants.{Length, Unprintable, Format, Version, EditionLength, Illegal, Broken, Unheld, Room}
 
 abbrev pub numberOf : Refusal → ℕ
 numberOf Length = 1
@@ -13,7 +13,6 @@ numberOf (Illegal element) = 6
 numberOf (Broken tie) = 7
 numberOf Unheld = 8
 numberOf Room = 9
-numberOf NoElement = 11
 
 abbrev pub placeOf : Refusal → ℕ
 placeOf Length = 0
@@ -25,4 +24,3 @@ placeOf (Illegal element) = element
 placeOf (Broken tie) = tie
 placeOf Unheld = 0
 placeOf Room = 0
-placeOf NoElement = 0

@@ -114,8 +114,6 @@ pub enum Refusal {
     Unheld,
     // lent buffer shorter than that edition
     Room,
-    // element number not in the record's edition
-    NoElement,
 }
 
 impl Refusal {
@@ -133,7 +131,6 @@ impl Refusal {
             Refusal::Broken(_) => 7,
             Refusal::Unheld => 8,
             Refusal::Room => 9,
-            Refusal::NoElement => 11,
         }
     }
 
@@ -151,7 +148,6 @@ impl Refusal {
             Refusal::Broken(tie) => tie as u64,
             Refusal::Unheld => 0,
             Refusal::Room => 0,
-            Refusal::NoElement => 0,
         }
     }
 }

@@ -1,23 +1,23 @@
 -- What each way through the code that reads says of the reading. Assumes nothing.
 use mathlib.Core.Path.{_≡_, refl, sym, ap, _∙_}
-use mathlib.Core.Bool.{Bool, true, false, cond}
+use mathlib.Core.Logic.{⊎-elim}
+use mathlib.Core.Bool.{Bool, true, false, cond, _||_}
 use mathlib.Core.List.{List}
 use Prim.Native.Nat.{ℕ, _+_, _-_, _%_, _≤_, _<_}
 use native.Mathlib.Omega.{arith}
-use borrow.Author.Tests.{eq-eqb, ne-eqb, le-leb, lt-leb}
-use native.Mathlib.Nat.{le-refl}
-use lib.Dec.{leb, lit≤}
+use borrow.Author.Tests.{eq-eqb, ne-eqb, eqb-true, eqb-false, le-leb, lt-leb}
+use native.Mathlib.Nat.{le-refl, eq-or-lt-of-le}
+use lib.Dec.{eqb, leb, lit≤}
 use lib.IntN.{ℤ}
-use Rattle.text.specs.Bytes.{blank, digits, number, word}
+use lib.ListN.{length}
+use Rattle.text.specs.Bytes.{every, blank, digits, number, word}
 use Rattle.text.specs.Texts.{among}
-use Rattle.text.proofs.Among.{among-cases}
+use Rattle.text.proofs.Among.{among-cases, neither-first, neither-second}
+use Rattle.text.proofs.Ways.{decide}
 use Rattle.layout.specs.declared.Edition.{Edition}
-use Rattle.layout.specs.declared.Refusal.the-variants.{NoElement}
-use Rattle.layout.specs.Editions.{lastOf}
+use Rattle.layout.specs.Editions.{lengthOf, lastOf}
 use Rattle.layout.specs.Page.{textOf}
-use Rattle.checking.specs.declared.Answer.{Answer}
-use Rattle.checking.specs.declared.Answer.the-variants.{Accepted}
-use Rattle.checking.specs.Check.{checked}
+use Rattle.layout.proofs.Beyond.{last-above, text-none}
 use Rattle.reading.specs.declared.Kind.{Kind}
 use Rattle.reading.specs.declared.Kind.the-variants.{Measured}
 use Rattle.reading.specs.declared.Reading.{Reading}
@@ -26,8 +26,6 @@ use Rattle.places.specs.declared.Place.{Place}
 use Rattle.places.specs.Places.{placeAt}
 use Rattle.signs.specs.Signed.{signed}
 use Rattle.reading.specs.Readings.{alwaysText, codeOf, plain, below, kindOf, temperature, departure, placeOf, lead, itemOf, readingOf}
-use Rattle.reading.specs.declared.Found.the-variants.{Reads, Unread}
-use Rattle.reading.specs.Answers.{readAfter, readOf}
 
 -- PPPP below 1000, and any other number
 module _ (e n m : ℕ) (f : m ≡ n) where
@@ -112,6 +110,9 @@ among-below k = among-cases (λ n. n ≤ k)
 pub among-above : (k a b c d n : ℕ) → k ≤ a → k ≤ b → k ≤ c → k ≤ d → among a b c d n ≡ true → k ≤ n
 among-above k = among-cases (λ n. k ≤ n)
 
+among-past : (k a b c d n : ℕ) → a ≤ k → b ≤ k → c ≤ k → d ≤ k → k < n → among a b c d n ≡ false
+among-past k a b c d n p q r s h = decide (among a b c d n) (λ t. let l = among-below k a b c d n p q r s t in absurd (omega arith)) (λ t. t)
+
 -- what the element reads as that shares its reading with no lower one, by the kind of element
 module _ (ed : Edition) (xs : List ℕ) (e : ℕ) where
   pub item-place : e ≡ 6 → itemOf ed xs e ≡ placeOf ed (textOf 6 xs) (textOf 7 xs) (textOf 8 xs)
@@ -123,14 +124,31 @@ module _ (ed : Edition) (xs : List ℕ) (e : ℕ) where
     unfolding itemOf
     item-temperature h = rw (ne-eqb e 6 p, h)
 
-    module _ (q : among 16 18 28 50 e ≡ false) where
-      pub item-departure : e ≡ 91 → itemOf ed xs e ≡ departure (textOf 91 xs)
-      unfolding itemOf
-      item-departure h = rw (ne-eqb e 6 p, q, eq-eqb e 91 h)
+  pub item-alone : (eqb e 6 || among 16 18 28 50 e) ≡ false → itemOf ed xs e ≡ cond (eqb e 91) (departure (textOf e xs)) (plain e (textOf e xs))
+  unfolding itemOf
+  item-alone h =
+      rw (neither-first (eqb e 6) _ h, neither-second (eqb e 6) _ h)
+      (decide (eqb e 91) (λ t. rw (t, eqb-true e 91 t)) (λ t. rw t))
 
-      pub item-plain : (e ≡ 91 → ⊥) → itemOf ed xs e ≡ plain e (textOf e xs)
-      unfolding itemOf
-      item-plain h = rw (ne-eqb e 6 p, q, ne-eqb e 91 h)
+  -- an element that the edition lacks has no text, and so no reading
+  pub lacking : length xs ≡ lengthOf ed → lastOf ed < e → readingOf ed xs e ≡ Missing
+  unfolding departure plain every
+  lacking f h =
+      let past = last-above ed in
+      let alone : (eqb e 6 || among 16 18 28 50 e) ≡ false = rw (ne-eqb e 6 (λ z. omega arith), among-past 85 16 18 28 50 e (lit≤ tt) (lit≤ tt) (lit≤ tt) (lit≤ tt) (omega arith)) in
+      rw (among-past 85 7 8 7 8 e (lit≤ tt) (lit≤ tt) (lit≤ tt) (lit≤ tt) (omega arith), among-past 85 17 19 29 51 e (lit≤ tt) (lit≤ tt) (lit≤ tt) (lit≤ tt) (omega arith), item-alone alone, text-none ed xs f e h)
+      (decide (eqb e 91) (λ t. rw t) (λ t. rw t))
+
+-- an element that others share the reading of: it is no later than the last sign, and where it is not column 12 it is a sign
+module _ (e : ℕ) (h : (eqb e 6 || among 16 18 28 50 e) ≡ true) where
+  pub leads-sign : (e ≡ 6 → ⊥) → among 16 18 28 50 e ≡ true
+  leads-sign n = ap (λ (t : Bool). t || among 16 18 28 50 e) (sym (ne-eqb e 6 n)) ∙ h
+
+  pub leads-low : e ≤ 50
+  leads-low =
+      decide (eqb e 6)
+      (λ t. let z = eqb-true e 6 t in omega arith)
+      (λ t. among-below 50 16 18 28 50 e (lit≤ tt) (lit≤ tt) (lit≤ tt) (lit≤ tt) (leads-sign (eqb-false e 6 t)))
 
 -- a reading of texts, each of which is known
 module _ {r : Reading} where
@@ -142,23 +160,6 @@ module _ {r : Reading} where
 
   pub from-three : (f : List ℕ → List ℕ → List ℕ → Reading) {a a′ b b′ c c′ : List ℕ} → r ≡ f a b c → a ≡ a′ → b ≡ b′ → c ≡ c′ → r ≡ f a′ b′ c′
   from-three f {a} {a′} {b} {b′} {c} {c′} e p q s = from-two (λ x y. f x y c′) (e ∙ ap (f a b) s) p q
-
--- a number of no element of the edition, and one of its elements
-module _ (ed : Edition) (xs : List ℕ) (e : ℕ) where
-  pub none-below : e < 1 → Unread NoElement ≡ readAfter (Accepted ed) xs e
-  unfolding readAfter
-  none-below h = rw (lt-leb 1 e h)
-
-  pub none-above : 1 ≤ e → lastOf ed < e → Unread NoElement ≡ readAfter (Accepted ed) xs e
-  unfolding readAfter
-  none-above h k = rw (le-leb 1 e h, lt-leb e (lastOf ed) k)
-
-  pub one-read : 1 ≤ e → e ≤ lastOf ed → (r : Reading) → r ≡ readingOf ed xs e → Reads r ≡ readAfter (Accepted ed) xs e
-  unfolding readAfter
-  one-read h k r f = rw (le-leb 1 e h, le-leb e (lastOf ed) k, f)
-
-pub after-answer : {a b : Answer} (xs : List ℕ) (e : ℕ) → a ≡ checked xs → a ≡ b → readAfter b xs e ≡ readOf xs e
-after-answer xs e f g = ap (λ (q : Answer). readAfter q xs e) (sym g ∙ f)
 
 -- the lowest element that shares a reading with e is one of the elements, and no higher than e
 pub record Lead (e l : ℕ) : Type 0 where
@@ -181,3 +182,9 @@ lead-of-lead e = by (among 7 8 7 8 e) (among 17 19 29 51 e) refl refl
     by true y p q = among-cases (λ k. lead (lead k) ≡ lead k) 7 8 7 8 e refl refl refl refl p
     by false true p q = among-cases (λ k. lead (lead k) ≡ lead k) 17 19 29 51 e refl refl refl refl q
     by false false p q = rw (p, q, p, q)
+
+pub shared : (ed : Edition) (xs : List ℕ) (e l : ℕ) → l ≡ lead e → readingOf ed xs l ≡ readingOf ed xs e
+shared ed xs e l h = ap (itemOf ed xs) (ap lead h ∙ lead-of-lead e)
+
+pub lower : (l e : ℕ) → (l ≡ e → ⊥) → l ≤ e → l < e
+lower l e n h = ⊎-elim (λ z. absurd (n z)) (λ m. m) (eq-or-lt-of-le h)

@@ -21,12 +21,9 @@ use Rattle.checking.specs.declared.Answer.the-variants.{Accepted}
 use Rattle.checking.specs.Check.{checked}
 use Rattle.checking.specs.Acceptable.{Acceptable}
 use Rattle.checking.proofs.Demand2Acceptance.{accepted-exactly}
-use Rattle.reading.specs.declared.Found.the-variants.{Reads}
 use Rattle.reading.specs.declared.Reading.the-variants.{Missing, At}
 use Rattle.reading.specs.Readings.{placeOf}
-use Rattle.reading.specs.Answers.{readOf}
-use Rattle.reading.proofs.ReadingLaws.{among-below, among-above}
-use Rattle.reading.proofs.Demand2Readings.{reads-place}
+use Rattle.reading.proofs.Demand2Readings.{reads, reads-place}
 
 -- what a place from an accepted record is: multiples of ten, latitude to 90.00 and longitude to 359.90 degrees
 pub record ReadPlace (p : Place) : Type 0 where
@@ -66,11 +63,8 @@ module _ (ed : Edition) (xs : List ℕ) (a : Acceptable ed xs) where
           rw (← same) (latitude-most ed (number (textOf 6 xs)) (number (textOf 7 xs)) (number (textOf 8 xs)) north, longitude-most ed (number (textOf 6 xs)) (number (textOf 7 xs)) (number (textOf 8 xs)) (omega arith))
 
 -- Every accepted record, each of the elements 6 to 8 that is not missing.
-pub place-read : (ed : Edition) (xs : List ℕ) → checked xs ≡ Accepted ed → (e : ℕ) → among 6 7 8 8 e ≡ true → (p : Place) → readOf xs e ≡ Reads (At p) → ReadPlace p
+pub place-read : (ed : Edition) (xs : List ℕ) → checked xs ≡ Accepted ed → (e : ℕ) → among 6 7 8 8 e ≡ true → (p : Place) → reads xs e ≡ At p → ReadPlace p
 place-read ed xs accepted e k p r =
-    let low = among-above 6 6 7 8 8 e (lit≤ tt) (lit≤ tt) (lit≤ tt) (lit≤ tt) k in
-    let high = among-below 8 6 7 8 8 e (lit≤ tt) (lit≤ tt) (lit≤ tt) (lit≤ tt) k in
-    let as-place = sym (reads-place ed xs accepted e (omega arith) (omega (arith, last-above ed)) k) ∙ r in
-    let gives : placeOf ed (textOf 6 xs) (textOf 7 xs) (textOf 8 xs) ≡ At p = cc in
+    let gives = sym (reads-place ed xs accepted e k) ∙ r in
     let at = limits ed xs (accepted-exactly xs ed .0 accepted) p gives in
     record { tens = gives-tens ed (textOf 6 xs) (textOf 7 xs) (textOf 8 xs) p gives; latitude = at .0; longitude = at .1 }

@@ -1,36 +1,35 @@
--- What reading an element of a record answers: rules 1 to 7, then 11 for a number that is no element of the record's edition. Assumes nothing.
-use Prim.Native.Nat.{ℕ}
-use mathlib.Core.List.{List}
-use mathlib.Core.Bool.{cond, _&&_}
-use lib.Dec.{leb}
-use Rattle.layout.specs.Editions.{lastOf}
-use Rattle.layout.specs.Refusals.{numberOf, placeOf}
-use Rattle.layout.specs.declared.Refusal.the-variants.{NoElement}
+-- What reading a record answers: its refusal by rules 1 to 7, or its edition and all its readings. Assumes nothing.
+use Prim.Native.Nat.{ℕ, zero, suc, _+_, _-_}
+use mathlib.Core.List.{List, [], _∷_, map}
+use lib.ListN.{getD}
 use Rattle.checking.specs.declared.Answer.{Answer}
 use Rattle.checking.specs.declared.Answer.the-variants.{Accepted, Refused}
 use Rattle.checking.specs.Check.{checked}
-use Rattle.reading.specs.declared.Found.{Found}
-use Rattle.reading.specs.declared.Found.the-variants.{Reads, Unread}
+use Rattle.reading.specs.declared.Entry.{Entry}
 use Rattle.reading.specs.declared.Reading.{Reading}
 use Rattle.reading.specs.declared.Reading.the-variants.{Missing}
+use Rattle.reading.specs.declared.Readings.{Readings}
 use Rattle.reading.specs.Readings.{readingOf}
 
-unfoldable pub readAfter : Answer → List ℕ → ℕ → Found
-readAfter (Refused r) xs e = Unread r
-readAfter (Accepted ed) xs e = cond (leb 1 e && leb e (lastOf ed)) (Reads (readingOf ed xs e)) (Unread NoElement)
+-- the entries of the n elements from e on, and of all 101
+unfoldable pub entriesFrom : (ℕ → Reading) → ℕ → ℕ → List Entry
+entriesFrom reads e zero = []
+entriesFrom reads e (suc n) = record { reading = reads e } ∷ entriesFrom reads (e + 1) n
 
-abbrev pub readOf : List ℕ → ℕ → Found
-readOf xs e = readAfter (checked xs) xs e
+abbrev pub entriesOf : (ℕ → Reading) → List Entry
+entriesOf reads = entriesFrom reads 1 101
 
--- the number, the place and the reading of an answer, as document 01 has them
-abbrev pub foundNumber : Found → ℕ
-foundNumber (Reads r) = 0
-foundNumber (Unread r) = numberOf r
+-- an accepted record gives every reading, and those that its edition lacks are missing, having no columns; a refused one gives none
+unfoldable pub readAfter : Answer → List ℕ → Readings
+readAfter (Accepted ed) xs = record { answer = Accepted ed; entries = entriesOf (readingOf ed xs) }
+readAfter (Refused r) xs = record { answer = Refused r; entries = entriesOf (λ e. Missing) }
 
-abbrev pub foundPlace : Found → ℕ
-foundPlace (Reads r) = 0
-foundPlace (Unread r) = placeOf r
+abbrev pub readOf : List ℕ → Readings
+readOf xs = readAfter (checked xs) xs
 
-abbrev pub foundReading : Found → Reading
-foundReading (Reads r) = r
-foundReading (Unread r) = Missing
+-- the readings that entries hold, and that of element e: the first entry is element 1's
+abbrev pub readings : List Entry → List Reading
+readings entries = map (λ (entry : Entry). entry .reading) entries
+
+abbrev pub readAs : List Entry → ℕ → Reading
+readAs entries e = getD (readings entries) (e - 1) Missing

@@ -1,18 +1,25 @@
-// Readings: what the columns of an element say.
+// Readings: what the columns of a record say.
 //
-// A reading is missing, a code, a text, an amount with its kind, or a place. What each element reads
-// as is `itemOf` of specs/Readings.antt.
+// One call checks a record and reads it, every element: `readOf` of specs/Answers.antt says what it
+// answers. A reading is missing, a code, a text, an amount with its kind, or a place; what each element
+// reads as is `itemOf` of specs/Readings.antt.
 use checking::Answer;
+use faults::strays;
 use layout::Edition;
-use layout::Refusal;
 use layout::page;
+use layout::widths::width_of;
 use places::Place;
 ghost use mathlib.Core.Path.{_≡_};
-ghost use mathlib.Core.Bool.{true};
-ghost use Prim.Native.Nat.{_≤_, _+_};
+ghost use mathlib.Core.Bool.{true, cond, not, _&&_, _||_};
+ghost use mathlib.Core.List.{[], _∷_};
+ghost use Prim.Native.Nat.{_≤_};
+ghost use lib.Dec.{eqb};
 ghost use lib.ListN.{length};
 ghost use Rattle.text.specs.Texts.{among};
-ghost use Rattle.reading.specs.Readings.{alwaysText, codeOf, plain, below, kindOf, temperature, departure, placeOf, lead, itemOf, readingOf};
+ghost use Rattle.layout.specs.declared.Edition.{Edition};
+ghost use Rattle.layout.specs.Editions.{lengthOf};
+ghost use Rattle.layout.specs.Page.{startOf, widthOf};
+ghost use Rattle.reading.specs.Readings.{alwaysText, codeOf, plain, below, kindOf, temperature, departure, placeOf, lead, itemOf};
 ghost use Rattle.reading.specs.Answers.{readAfter, readOf};
 
 // How an amount came about.
@@ -31,10 +38,16 @@ pub enum Reading {
     At(Place),
 }
 
-// What reading an element answers.
-pub enum Found {
-    Reads(Reading),
-    Unread(Refusal),
+// What one element reads as. (A struct that holds an array holds one of structs.)
+pub struct Entry {
+    pub reading: Reading,
+}
+
+// What reading a record answers: its edition, and an entry for each of the 101 elements, the first for
+// element 1; or the refusal, and then every entry is missing.
+pub struct Readings {
+    pub answer: Answer,
+    pub entries: [Entry; 101],
 }
 
 // The same number, wider.
@@ -84,6 +97,23 @@ fn plain_of(e: usize, text: &[u8]) -> Reading
         return Reading::Text(numerals::word_of(text));
     }
     Reading::Code(code_of(e, text::number_of(text)))
+}
+
+// The same of one column that may read as a code, as element 1's does. Each answer is worked out before one
+// is chosen, so that the compiler chooses with no branch.
+fn column_of(b: u8) -> Reading
+    ensures { λ r. ⌜ r ≡ plain 1 (b ∷ []) ⌝ }
+{
+    let other = strays(b, b'0', b'9');
+    let code = wide(text::digit_of(b));
+    let letter = b as u64;
+    if b == 32 {
+        return Reading::Missing;
+    }
+    if other != 0 {
+        return Reading::Text(letter);
+    }
+    Reading::Code(code)
 }
 
 // The kind of amount that a sign says.
@@ -184,62 +214,113 @@ pub fn is_sign(e: usize) -> bool
     }
 }
 
-// The element after one that is not the last of all numbers.
-fn next(e: usize) -> usize
-    requires { ⌜ among 16 18 28 50 e ≡ true ⌝ }
-    ensures { λ r. ⌜ r ≡ e + 1 ⌝ }
+// Do others share the reading that begins with the element?
+fn is_leading(e: usize) -> bool
+    ensures { λ r. ⌜ r ≡ (eqb e 6 || among 16 18 28 50 e) ⌝ }
 {
-    e + 1
+    e == 6 || is_sign(e)
 }
 
-// What the element reads as that shares its reading with no lower one.
-fn item_of(edition: Edition, line: &[u8], e: usize) -> Reading
+// What the elements read as that share a reading, of which e is the first and starts at that column: a
+// place, or a sign and its temperature.
+fn item_at(edition: Edition, line: &[u8], e: usize, at: usize) -> Reading
+    requires { ⌜ ((eqb e 6 || among 16 18 28 50 e) ≡ true) × (at ≡ startOf e) ⌝ }
     ensures { λ r. ⌜ r ≡ itemOf edition (now (line .entry)) e ⌝ }
 {
+    let first = page::columns(line, at, width_of(e));
+    let next = at + width_of(e);
+    let second = page::columns(line, next, width_of(e + 1));
     if e == 6 {
-        return place_of(
-            edition,
-            page::text_of(line, 6),
-            page::text_of(line, 7),
-            page::text_of(line, 8),
-        );
+        let last = next + width_of(7);
+        let third = page::columns(line, last, width_of(8));
+        return place_of(edition, first, second, third);
     }
-    if is_sign(e) {
-        return temperature_of(page::text_of(line, e), page::text_of(line, next(e)));
-    }
+    temperature_of(first, second)
+}
+
+// The reading of an element that shares it with no other.
+fn alone_of(e: usize, text: &[u8]) -> Reading
+    requires { ⌜ length (now text) ≤ 7 ⌝ }
+    ensures { λ r. ⌜ r ≡ cond (eqb e 91) (departure (now (text .entry))) (plain e (now (text .entry))) ⌝ }
+{
     if e == 91 {
-        return departure_of(page::text_of(line, 91));
+        return departure_of(text);
     }
-    plain_of(e, page::text_of(line, e))
+    plain_of(e, text)
 }
 
-// What element e of a record of this edition reads as.
-pub fn reading_of(edition: Edition, line: &[u8], e: usize) -> Reading
-    ensures { λ r. ⌜ r ≡ readingOf edition (now (line .entry)) e ⌝ }
+// The elements of one column that share their reading with no other and may read as a code, a bit each:
+// those up to 63, and those from 64 on.
+const SINGLE_0: u64 = 0xf8d2_e3a0_cfc0_5602;
+
+const SINGLE_64: u64 = 0x003f_c07f_ffff;
+
+// Is it one of them?
+fn is_single(e: usize) -> bool
+    requires { ⌜ e ≤ 101 ⌝ }
+    ensures { λ r. ⌜ r ≡ (eqb (widthOf e) 1 && not (eqb e 6 || among 16 18 28 50 e) && not (alwaysText e)) ⌝ }
 {
-    item_of(edition, line, lead_of(e))
+    if e < 64 {
+        return (SINGLE_0 >> e) % 2 == 1;
+    }
+    (SINGLE_64 >> (e - 64)) % 2 == 1
 }
 
-// Reads one element of an accepted record.
-fn read_in(edition: Edition, line: &[u8], element: u64) -> Found
-    ensures { λ r. ⌜ r ≡ readAfter (Answer.Accepted edition) (now (line .entry)) element ⌝ }
+// Reads a record of which the check's answer is known: every element of an accepted one. Where an element
+// starts is carried along; those that the edition lacks stay missing, as all of a refused record do. The
+// entries are made once for either answer, so that the compiler has no two rows to choose between.
+pub fn read_after(answer: Answer, line: &[u8]) -> Readings
+    requires { ⌜ ((ed : Edition) → answer ≡ Answer.Accepted ed → length (now line) ≡ lengthOf ed) ⌝ }
+    ensures { λ r. ⌜ r ≡ readAfter answer (now (line .entry)) ⌝ }
 {
-    let last = edition.last() as u64;
-    if element < 1 {
-        return Found::Unread(Refusal::NoElement);
+    let mut all = Readings {
+        answer: answer,
+        entries: [Entry {
+            reading: Reading::Missing,
+        }; 101],
+    };
+    match answer {
+        Answer::Accepted(edition) => {
+            let last = edition.last();
+            let mut at = 0;
+            let mut e = 1;
+            while e <= last {
+                let k = e - 1;
+                let next = e + 1;
+                if is_single(e) {
+                    all.entries[k] = Entry {
+                        reading: column_of(line[at]),
+                    };
+                    at += 1;
+                    e = next;
+                } else {
+                    let end = at + width_of(e);
+                    let lead = lead_of(e);
+                    if lead != e {
+                        let entry = all.entries[lead - 1];
+                        all.entries[k] = entry;
+                    } else if is_leading(e) {
+                        all.entries[k] = Entry {
+                            reading: item_at(edition, line, e, at),
+                        };
+                    } else {
+                        all.entries[k] = Entry {
+                            reading: alone_of(e, &line[at..end]),
+                        };
+                    }
+                    at = end;
+                    e = next;
+                }
+            }
+            all
+        }
+        Answer::Refused(_) => all,
     }
-    if last < element {
-        return Found::Unread(Refusal::NoElement);
-    }
-    Found::Reads(reading_of(edition, line, element as usize))
 }
 
-// Reads one element of a record: any record, any number.
-pub fn read(line: &[u8], element: u64) -> Found
-    ensures { λ r. ⌜ r ≡ readOf (now (line .entry)) element ⌝ }
+// Checks a record and reads it: the refusal, or its edition and all its readings. Takes any bytes.
+pub fn read(line: &[u8]) -> Readings
+    ensures { λ r. ⌜ r ≡ readOf (now (line .entry)) ⌝ }
 {
-    match checking::check(line) {
-        Answer::Accepted(edition) => read_in(edition, line, element),
-        Answer::Refused(refusal) => Found::Unread(refusal),
-    }
+    read_after(checking::check(line), line)
 }

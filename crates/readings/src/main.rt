@@ -23,6 +23,7 @@ use printing::Held;
 use printing::Tally;
 use printing::say;
 use printing::say_number;
+use reading::Entry;
 use reading::Kind;
 use reading::Reading;
 use writing::Outcome;
@@ -91,10 +92,11 @@ fn say_reading(record: u64, element: u64, reading: Reading) {
 }
 
 // A line for each of the 101 elements.
-fn say_readings(record: u64, readings: [Reading; 101]) {
+fn say_readings(record: u64, entries: [Entry; 101]) {
     let mut k = 0;
     while k < 101 {
-        let reading = readings[k];
+        let entry = entries[k];
+        let reading = entry.reading;
         k += 1;
         say_reading(record, k as u64, reading);
     }
@@ -108,18 +110,6 @@ fn say_written(is_same: bool, record: u64) {
     } else {
         say(b" written other\n");
     }
-}
-
-// What each element of an accepted record reads as; one that its edition does not have reads as
-// missing. The record was checked once already, so no element asks for a check of its own.
-fn readings_of(edition: Edition, line: &[u8]) -> [Reading; 101] {
-    let mut readings = [Reading::Missing; 101];
-    let mut k = 0;
-    while k < 101 {
-        readings[k] = reading::reading_of(edition, line, k + 1);
-        k += 1;
-    }
-    readings
 }
 
 // Does the text begin with the line?
@@ -139,31 +129,33 @@ fn begins_with(text: &[u8], line: &[u8]) -> bool {
 
 // Is the record that is written from the readings the line that they were read from? The buffer has
 // room for either length, and an accepted line has its edition's own.
-fn is_written_same(edition: Edition, readings: [Reading; 101], line: &[u8]) -> bool {
+fn is_written_same(edition: Edition, entries: [Entry; 101], line: &[u8]) -> bool {
     let mut buffer = [0u8; 159];
-    match writing::write(readings, edition.number(), &mut buffer) {
+    match writing::write(entries, edition.number(), &mut buffer) {
         Outcome::Done => begins_with(&buffer, line),
         Outcome::Unwritten(_) => false,
     }
 }
 
 // Says what an accepted record holds.
-fn tell_accepted(edition: Edition, line: &[u8], record: u64) {
-    let readings = readings_of(edition, line);
+fn tell_accepted(edition: Edition, entries: [Entry; 101], line: &[u8], record: u64) {
     printing::say_edition(edition);
-    say_readings(record, readings);
+    say_readings(record, entries);
     printing::say_call_sign(checking::show_call_sign(line), record);
-    say_written(is_written_same(edition, readings, line), record);
+    say_written(is_written_same(edition, entries, line), record);
 }
 
-// Says what there is to say of one record.
+// Says what there is to say of one record, which is read by one call.
 fn tell(line: &[u8], before: Tally) -> Tally {
     let tally = before.with_record();
     let record = tally.records;
     printing::say_number(record);
-    match checking::check(line) {
+    let all = reading::read(line);
+    let answer = all.answer;
+    match answer {
         Answer::Accepted(edition) => {
-            tell_accepted(edition, line, record);
+            let entries = all.entries;
+            tell_accepted(edition, entries, line, record);
             tally
         }
         Answer::Refused(refusal) => {

@@ -8,6 +8,7 @@ use layout::Edition;
 use layout::widths;
 use numerals::Numeral;
 use places::Place;
+use reading::Entry;
 use reading::Kind;
 use reading::Reading;
 ghost use mathlib.Core.Path.{_≡_};
@@ -15,6 +16,7 @@ ghost use mathlib.Core.Bool.{cond};
 ghost use Prim.Native.Nat.{_≤_, _<_, _+_, _^_};
 ghost use lib.ListN.{length};
 ghost use Rattle.text.specs.Texts.{among};
+ghost use Rattle.reading.specs.Answers.{readings};
 ghost use Rattle.spelling.specs.Spelled.{signDigit, amountNumeral, placeNumeral, numeralFor, rowFor};
 ghost use Rattle.spelling.specs.Same.{kindNumber, partsOf, same};
 
@@ -28,7 +30,7 @@ pub struct Parts {
 }
 
 // The number of a kind, by which two are compared.
-fn kind_number(kind: Kind) -> u64
+pub fn kind_number(kind: Kind) -> u64
     ensures { λ r. ⌜ r ≡ kindNumber kind ⌝ }
 {
     match kind {
@@ -181,16 +183,17 @@ fn numeral_for(edition: Edition, e: usize, reading: Reading) -> Numeral
 }
 
 // Spells every reading into its element's columns, all 101 elements.
-pub fn put_all(edition: Edition, readings: [Reading; 101], row: &mut [u8])
+pub fn put_all(edition: Edition, entries: [Entry; 101], row: &mut [u8])
     requires { ⌜ length (now row) ≡ 159 ⌝ }
-    ensures { λ _. ⌜ now (row .exit) ≡ rowFor edition readings 1 101 ⌝ }
+    ensures { λ _. ⌜ now (row .exit) ≡ rowFor edition (readings entries) 1 101 ⌝ }
 {
     let mut at = 0;
     let mut e = 1;
     while e <= 101 {
         let width = widths::width_of(e);
         let k = reading::lead_of(e) - 1;
-        let r = readings[k];
+        let entry = entries[k];
+        let r = entry.reading;
         numerals::put(row, at, width, numeral_for(edition, e, r));
         at += width;
         e += 1;

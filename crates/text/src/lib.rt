@@ -61,7 +61,7 @@ pub fn is_blank(text: &[u8]) -> bool
 }
 
 // What a byte adds to a number: a digit's value.
-fn digit_of(b: u8) -> u32
+pub fn digit_of(b: u8) -> u32
     ensures { λ r. ⌜ r ≡ b - 48 ⌝ }
 {
     if b < 48 { 0 } else { (b - 48) as u32 }

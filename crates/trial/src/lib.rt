@@ -1,99 +1,147 @@
-// The calls that the desk's host program does not make, for C: reading an element, showing the call
-// sign, and writing from readings. They are here for the comparison with the other implementation,
-// peer/compare, and for nothing else; the desk's own exports are in the crate desk.
+// The calls that the desk's host program does not make, for C: reading a record, showing the call sign,
+// and writing from readings. They are here for the comparison with the other implementation, peer/compare,
+// and for bench/run, and for nothing else; the desk's own exports are in the crate desk.
 //
-// What is read is answered as `spelling::Parts` has it: the case (0 missing, 1 a code, 2 a text, 3 an
-// amount, 4 a place); whether the amount or the latitude is below zero, 1 or 0; and three parts: the code,
-// the text's number, or the amount or latitude without its sign; the kind (0 measured, 1 computed, 2 iced
-// measured, 3 iced computed) or the longitude; the digit of column 12.
-//
-// What is written is given as four numbers for each element (the case; the code or the text's number; the
-// kind or the longitude; the digit) and, beside them, one number with a sign (the amount or the latitude).
+// Readings are passed as numbers, the same way in and out. For each element, four: the case (0 missing, 1 a
+// code, 2 a text, 3 an amount, 4 a place); the code or the text's number; the kind (0 measured, 1 computed,
+// 2 iced measured, 3 iced computed) or the longitude; the digit of column 12. And beside them one number
+// with a sign: the amount or the latitude. What a case does not use is 0.
+use checking::Answer;
 use places::Place;
-use reading::Found;
+use reading::Entry;
 use reading::Kind;
 use reading::Reading;
+use reading::Readings;
 use writing::Outcome;
 ghost use mathlib.Core.Path.{_≡_};
-ghost use mathlib.Core.Bool.{cond};
+ghost use mathlib.Core.Bool.{_&&_};
+ghost use mathlib.Core.List.{_++_};
 ghost use Prim.Native.Nat.{_≤_};
+ghost use lib.Dec.{leb};
 ghost use lib.IntN.{pos};
-ghost use lib.ListN.{length, getD};
-ghost use Rattle.checking.specs.Check.{checked, callSignOf};
-ghost use Rattle.reading.specs.Answers.{readOf, foundNumber, foundPlace, foundReading};
-ghost use Rattle.spelling.specs.Same.{partsOf};
+ghost use lib.ListN.{length, getD, drop};
+ghost use Rattle.checking.specs.Check.{checked, answerNumber, answerPlace, callSignOf};
+ghost use Rattle.reading.specs.Answers.{readOf, readings};
 ghost use Rattle.writing.specs.Written.{written, after, outcomeNumber, outcomePlace};
-ghost use Rattle.trial.specs.Packed.{kindFrom, readingFrom, readingAt, readingsIn, shownIn};
+ghost use Rattle.trial.specs.Packed.{kindFrom, readingFrom, readingAt, entriesIn, packed, numbersOf, amountsOf, editionIn, room, laidIn, shownIn};
 
-// 1 where it is so, else 0.
-fn bit(is_so: bool) -> u64
-    ensures { λ r. ⌜ r ≡ cond «is_so» 1 0 ⌝ }
-{
-    if is_so { 1 } else { 0 }
+// The numbers of a reading, the one with a sign last.
+pub struct Packed {
+    pub case: u64,
+    pub first: u64,
+    pub second: u64,
+    pub digit: u64,
+    pub amount: i64,
 }
 
-// The number of the refusal, 0 where there is none.
-fn found_number(found: Found) -> u64
-    ensures { λ r. ⌜ r ≡ foundNumber found ⌝ }
+// Packs a reading.
+fn pack(reading: Reading) -> Packed
+    ensures { λ r. ⌜ r ≡ packed reading ⌝ }
 {
-    match found {
-        Found::Reads(_) => 0,
-        Found::Unread(refusal) => refusal.number(),
+    match reading {
+        Reading::Missing => Packed {
+            case: 0,
+            first: 0,
+            second: 0,
+            digit: 0,
+            amount: 0,
+        },
+        Reading::Code(n) => Packed {
+            case: 1,
+            first: n,
+            second: 0,
+            digit: 0,
+            amount: 0,
+        },
+        Reading::Text(n) => Packed {
+            case: 2,
+            first: n,
+            second: 0,
+            digit: 0,
+            amount: 0,
+        },
+        Reading::Amount(a, kind) => Packed {
+            case: 3,
+            first: 0,
+            second: spelling::kind_number(kind),
+            digit: 0,
+            amount: a,
+        },
+        Reading::At(place) => Packed {
+            case: 4,
+            first: 0,
+            second: place.longitude,
+            digit: place.digit,
+            amount: place.latitude,
+        },
     }
 }
 
-// The place that goes with it.
-fn found_place(found: Found) -> u64
-    ensures { λ r. ⌜ r ≡ foundPlace found ⌝ }
+// Puts the numbers of all 101 readings at the front of what is lent.
+fn put_all(all: Readings, numbers: &mut [u64], amounts: &mut [i64])
+    requires { ⌜ (404 ≤ length (now numbers)) × (101 ≤ length (now amounts)) ⌝ }
+    ensures { λ _. ⌜ now (numbers .exit) ≡ numbersOf (all .entries) ++ drop 404 (now (numbers .entry)) ⌝ }
+    ensures { λ _. ⌜ now (amounts .exit) ≡ amountsOf (all .entries) ++ drop 101 (now (amounts .entry)) ⌝ }
 {
-    match found {
-        Found::Reads(_) => 0,
-        Found::Unread(refusal) => refusal.place(),
+    let mut k = 0;
+    while k < 101 {
+        let entry = all.entries[k];
+        let reading = entry.reading;
+        let said = pack(reading);
+        let amount = said.amount;
+        let i = 4 * k;
+        numbers[i] = said.case;
+        numbers[i + 1] = said.first;
+        numbers[i + 2] = said.second;
+        numbers[i + 3] = said.digit;
+        amounts[k] = amount;
+        k += 1;
     }
 }
 
-// The reading, missing where there is none.
-fn found_reading(found: Found) -> Reading
-    ensures { λ r. ⌜ r ≡ foundReading found ⌝ }
+// Is there room for the numbers of all readings?
+fn has_room(numbers: &[u64], amounts: &[i64]) -> bool
+    ensures { λ r. ⌜ r ≡ room (now (numbers .entry)) (now (amounts .entry)) ⌝ }
 {
-    match found {
-        Found::Reads(reading) => reading,
-        Found::Unread(_) => Reading::Missing,
+    404 <= numbers.len() && 101 <= amounts.len()
+}
+
+// The number of an accepted record's edition, 0 where it is refused.
+fn edition_in(answer: Answer) -> u64
+    ensures { λ r. ⌜ r ≡ editionIn answer ⌝ }
+{
+    match answer {
+        Answer::Accepted(edition) => edition.number(),
+        Answer::Refused(_) => 0,
     }
 }
 
-// Reads one element of a record: the refusal's number, 0 where there is none, its place, and the five
-// numbers of the reading.
+// Reads a record: the refusal's number, 0 where there is none, its place, the edition's number, 0 where the
+// record is refused, and, where there is room for all of them, the numbers of the readings.
 #[no_mangle]
 pub extern "C" fn trial_read(
     line: &[u8],
-    element: u64,
+    numbers: &mut [u64],
+    amounts: &mut [i64],
+    edition: &mut u64,
     place: &mut u64,
-    case: &mut u64,
-    below: &mut u64,
-    first: &mut u64,
-    second: &mut u64,
-    third: &mut u64,
 ) -> u64
-    ensures { λ r. ⌜ r ≡ foundNumber (readOf (now (line .entry)) element) ⌝ }
-    ensures { λ r. ⌜ now (place .exit) ≡ foundPlace (readOf (now (line .entry)) element) ⌝ }
-    ensures { λ r. ⌜ now (case .exit) ≡ (partsOf (foundReading (readOf (now (line .entry)) element))) .case ⌝ }
-    ensures { λ r. ⌜ now (below .exit) ≡ cond ((partsOf (foundReading (readOf (now (line .entry)) element))) .below) 1 0 ⌝ }
-    ensures { λ r. ⌜ now (first .exit) ≡ (partsOf (foundReading (readOf (now (line .entry)) element))) .first ⌝ }
-    ensures { λ r. ⌜ now (second .exit) ≡ (partsOf (foundReading (readOf (now (line .entry)) element))) .second ⌝ }
-    ensures { λ r. ⌜ now (third .exit) ≡ (partsOf (foundReading (readOf (now (line .entry)) element))) .third ⌝ }
+    ensures { λ r. ⌜ r ≡ answerNumber (readOf (now (line .entry)) .answer) ⌝ }
+    ensures { λ r. ⌜ now (numbers .exit) ≡ laidIn (room (now (numbers .entry)) (now (amounts .entry))) (numbersOf (readOf (now (line .entry)) .entries)) (now (numbers .entry)) ⌝ }
+    ensures { λ r. ⌜ now (amounts .exit) ≡ laidIn (room (now (numbers .entry)) (now (amounts .entry))) (amountsOf (readOf (now (line .entry)) .entries)) (now (amounts .entry)) ⌝ }
+    ensures { λ r. ⌜ now (edition .exit) ≡ editionIn (readOf (now (line .entry)) .answer) ⌝ }
+    ensures { λ r. ⌜ now (place .exit) ≡ answerPlace (readOf (now (line .entry)) .answer) ⌝ }
 {
-    let found = reading::read(line, element);
-    let at = found_place(found);
-    let parts = spelling::parts_of(found_reading(found));
-    let is_below = bit(parts.below);
-    let number = found_number(found);
+    let all = reading::read(line);
+    let answer = all.answer;
+    let number = answer.number();
+    let at = answer.place();
+    let held = edition_in(answer);
+    if has_room(numbers, amounts) {
+        put_all(all, numbers, amounts);
+    }
+    *edition = held;
     *place = at;
-    *case = parts.case;
-    *below = is_below;
-    *first = parts.first;
-    *second = parts.second;
-    *third = parts.third;
     number
 }
 
@@ -173,17 +221,21 @@ fn reading_at(numbers: &[u64], amounts: &[i64], k: usize) -> Reading
     reading_of(case, first, second, digit, amount)
 }
 
-// The readings of all 101 elements.
-fn readings_of(numbers: &[u64], amounts: &[i64]) -> [Reading; 101]
-    ensures { λ r. ⌜ r ≡ readingsIn (now (numbers .entry)) (now (amounts .entry)) ⌝ }
+// The entries of all 101 elements.
+fn entries_of(numbers: &[u64], amounts: &[i64]) -> [Entry; 101]
+    ensures { λ r. ⌜ r ≡ entriesIn (now (numbers .entry)) (now (amounts .entry)) ⌝ }
 {
-    let mut readings = [Reading::Missing; 101];
+    let mut entries = [Entry {
+        reading: Reading::Missing,
+    }; 101];
     let mut k = 0;
     while k < 101 {
-        readings[k] = reading_at(numbers, amounts, k);
+        entries[k] = Entry {
+            reading: reading_at(numbers, amounts, k),
+        };
         k += 1;
     }
-    readings
+    entries
 }
 
 // The number of the refusal, 0 where there is none.
@@ -217,11 +269,11 @@ pub extern "C" fn trial_write(
     buffer: &mut [u8],
     place: &mut u64,
 ) -> u64
-    ensures { λ r. ⌜ r ≡ outcomeNumber (written (readingsIn (now (numbers .entry)) (now (amounts .entry))) edition (length (now (buffer .entry)))) ⌝ }
-    ensures { λ r. ⌜ now (place .exit) ≡ outcomePlace (written (readingsIn (now (numbers .entry)) (now (amounts .entry))) edition (length (now (buffer .entry)))) ⌝ }
-    ensures { λ r. ⌜ now (buffer .exit) ≡ after (readingsIn (now (numbers .entry)) (now (amounts .entry))) edition (now (buffer .entry)) ⌝ }
+    ensures { λ r. ⌜ r ≡ outcomeNumber (written (readings (entriesIn (now (numbers .entry)) (now (amounts .entry)))) edition (length (now (buffer .entry)))) ⌝ }
+    ensures { λ r. ⌜ now (place .exit) ≡ outcomePlace (written (readings (entriesIn (now (numbers .entry)) (now (amounts .entry)))) edition (length (now (buffer .entry)))) ⌝ }
+    ensures { λ r. ⌜ now (buffer .exit) ≡ after (readings (entriesIn (now (numbers .entry)) (now (amounts .entry)))) edition (now (buffer .entry)) ⌝ }
 {
-    let outcome = writing::write(readings_of(numbers, amounts), edition, buffer);
+    let outcome = writing::write(entries_of(numbers, amounts), edition, buffer);
     let at = outcome_place(outcome);
     let number = outcome_number(outcome);
     *place = at;

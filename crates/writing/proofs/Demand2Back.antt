@@ -21,7 +21,9 @@ use Rattle.checking.specs.Acceptable.{Acceptable}
 use Rattle.checking.proofs.Demand2Acceptance.{accepted-exactly}
 use Rattle.reading.specs.declared.Reading.{Reading}
 use Rattle.reading.specs.Readings.{lead, itemOf, readingOf}
+use Rattle.reading.specs.Answers.{readOf, readings}
 use Rattle.reading.proofs.ReadingLaws.{lead-is, lead-of-lead}
+use Rattle.reading.proofs.Demand2Readings.{reads-each}
 use Rattle.spelling.specs.Spelled.{numeralFor, given, recordOf}
 use Rattle.spelling.proofs.SameLaws.{same-self}
 use Rattle.spelling.proofs.RecordLaws.{record-long, record-text}
@@ -66,11 +68,13 @@ module _ (ed : Edition) (xs : List ℕ) (a : Acceptable ed xs) (rs : List Readin
   unfolding afterAs filledBy
   buffer-back edition e before h = rw (e, written-back (length before) h, record-back)
 
--- the same of the call: an accepted record whose elements are read, and written to its own edition where there is room
-pub read-and-written-back : (ed : Edition) (xs : List ℕ) → checked xs ≡ Accepted ed → (rs : List Reading) → ((e : ℕ) → 1 ≤ e → e ≤ 101 → given rs e ≡ readingOf ed xs e) →
+-- the same of the calls: what is read of an accepted record is written to its own edition where there is room
+pub read-and-written-back : (ed : Edition) (xs : List ℕ) → checked xs ≡ Accepted ed →
     (edition : ℕ) → asked edition ≡ Known ed → (before : List ℕ) → lengthOf ed ≤ length before →
-    (written rs edition (length before) ≡ Done) × (after rs edition before ≡ xs ++ drop (lengthOf ed) before)
+    (written (readings (readOf xs .entries)) edition (length before) ≡ Done) × (after (readings (readOf xs .entries)) edition before ≡ xs ++ drop (lengthOf ed) before)
 unfolding writtenAs
-read-and-written-back ed xs accepted rs as-read edition names before room =
+read-and-written-back ed xs accepted edition names before room =
     let a = accepted-exactly xs ed .0 accepted in
+    let rs = readings (readOf xs .entries) in
+    let as-read = reads-each ed xs accepted in
     (rw names (written-back ed xs a rs as-read (length before) room), buffer-back ed xs a rs as-read edition names before room)

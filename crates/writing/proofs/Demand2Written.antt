@@ -15,7 +15,8 @@ use Rattle.checking.specs.Acceptable.{Acceptable}
 use Rattle.checking.proofs.LegalLaws.{legal-record}
 use Rattle.checking.proofs.Demand2Acceptance.{accepted-exactly}
 use Rattle.reading.specs.declared.Reading.{Reading}
-use Rattle.reading.specs.Readings.{readingOf}
+use Rattle.reading.specs.Answers.{readAs, readOf}
+use Rattle.reading.proofs.Demand2Readings.{reads-each}
 use Rattle.spelling.specs.Spelled.{given, recordOf}
 use Rattle.spelling.proofs.RecordLaws.{record-long}
 use Rattle.writing.specs.declared.Outcome.the-variants.{Done}
@@ -32,8 +33,8 @@ pub written-is-accepted : (ed : Edition) (rs : List Reading) (room : ℕ) → wr
 written-is-accepted ed rs room e = let w = done-means ed rs room e in accepted-exactly (recordOf ed rs) ed .1 (acceptable ed rs (w .0) (w .1))
 
 -- each element of it reads as the reading that was given
-pub written-reads-as-given : (ed : Edition) (rs : List Reading) (room : ℕ) → writtenIn ed rs room ≡ Done → (e : ℕ) → 1 ≤ e → e ≤ 101 → readingOf ed (recordOf ed rs) e ≡ given rs e
-written-reads-as-given ed rs room d e h l = as-given ed rs (done-means ed rs room d .0) e h l
+pub written-reads-as-given : (ed : Edition) (rs : List Reading) (room : ℕ) → writtenIn ed rs room ≡ Done → (e : ℕ) → 1 ≤ e → e ≤ 101 → readAs (readOf (recordOf ed rs) .entries) e ≡ given rs e
+written-reads-as-given ed rs room d e h l = reads-each ed (recordOf ed rs) (written-is-accepted ed rs room d) e h l ∙ as-given ed rs (done-means ed rs room d .0) e h l
 
 -- What a call that succeeds leaves in the lent buffer: a record in front, and behind it what stood there.
 abbrev pub front : Edition → List Reading → ℕ → List ℕ → List ℕ
@@ -43,7 +44,7 @@ pub record Success (rs : List Reading) (edition : ℕ) (before : List ℕ) : Typ
   pub held : Edition
   pub names : asked edition ≡ Known held
   pub accepted : checked (front held rs edition before) ≡ Accepted held
-  pub reads : (e : ℕ) → 1 ≤ e → e ≤ 101 → readingOf held (front held rs edition before) e ≡ given rs e
+  pub reads : (e : ℕ) → 1 ≤ e → e ≤ 101 → readAs (readOf (front held rs edition before) .entries) e ≡ given rs e
   pub rest : drop (lengthOf held) (after rs edition before) ≡ drop (lengthOf held) before
 
 module _ (ed : Edition) (rs : List Reading) (edition : ℕ) (before : List ℕ) (names : asked edition ≡ Known ed) (done : writtenIn ed rs (length before) ≡ Done) where
@@ -59,7 +60,7 @@ module _ (ed : Edition) (rs : List Reading) (edition : ℕ) (before : List ℕ) 
     held = ed;
     names = names;
     accepted = ap checked is-front ∙ written-is-accepted ed rs (length before) done;
-    reads = λ e l h. ap (λ (xs : List ℕ). readingOf ed xs e) is-front ∙ written-reads-as-given ed rs (length before) done e l h;
+    reads = λ e l h. ap (λ (xs : List ℕ). readAs (readOf xs .entries) e) is-front ∙ written-reads-as-given ed rs (length before) done e l h;
     rest = ap (drop (lengthOf ed)) filled ∙ drop-at (recordOf ed rs) (drop (lengthOf ed) before) (lengthOf ed) (record-long ed rs);
   }
 

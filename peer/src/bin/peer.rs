@@ -82,7 +82,10 @@ fn bench() {
         let check = best(records, |record| {
             black_box(peer::check(record));
         });
-        print!("edition {} filled {eighths}/8: check {check:.1} ns", edition.number());
+        let read = best(records, |record| {
+            black_box(&peer::read(record));
+        });
+        print!("edition {} filled {eighths}/8: check {check:.1} ns, read all {read:.1} ns", edition.number());
         for to in [1, 3, 4] {
             let mut buffer = [0u8; 160];
             let recast = best(records, |record| {
@@ -106,12 +109,15 @@ fn bench() {
     let check = best(&all, |record| {
         black_box(peer::check(record));
     });
+    let read = best(&all, |record| {
+        black_box(&peer::read(record));
+    });
     let mut buffer = [0u8; 160];
     let recast = best(&all, |record| {
         black_box(peer::recast(record, black_box(4), &mut buffer));
         black_box(&mut buffer);
     });
-    println!("all editions in chance order: check {check:.1} ns, recast to 4 {recast:.1} ns");
+    println!("all editions in chance order: check {check:.1} ns, read all {read:.1} ns, recast to 4 {recast:.1} ns");
     let damaged: Vec<Vec<u8>> = (0..COUNT)
         .map(|_| trial::record(&mut chance, &limits, Family::Damaged))
         .filter(|record| peer::check(record).number != 0)

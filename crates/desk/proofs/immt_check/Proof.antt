@@ -1,7 +1,8 @@
--- `desk::immt_check` meets its contract: it stores and returns what `check` answers. Assumes nothing.
+-- `desk::immt_check` meets its contract: it stores and returns what `check` answers, and so what reading does. Assumes nothing.
 use Rattle.checking.specs.Check.{answerNumber, answerPlace}
+use Rattle.reading.proofs.Request6Readings.{checks}
 use borrow.Author.Needs.{needs}
-use mathlib.Core.Path.{_∙_, ap}
+use mathlib.Core.Path.{_∙_, ap, sym}
 use Rattle.desk.proofs.immt_check.Statement.{statement}
 use Rattle.desk.proofs.immt_check.Tie as tie
 
@@ -15,7 +16,9 @@ number-requires : tie.Need-number-requires
 number-requires c κs = search needs
 
 returns : tie.Need-returns
-returns c = (c .number .ensures ∙ ap answerNumber (c .before .before .check .ensures), c .before .place .ensures ∙ ap answerPlace (c .before .before .check .ensures))
+returns c =
+    let answer = c .before .before .check .ensures ∙ sym (checks _) in
+    (c .number .ensures ∙ ap answerNumber answer, c .before .place .ensures ∙ ap answerPlace answer)
 
 pub immt-check-spec : {M : Type 1} → statement M
 immt-check-spec = tie.close (tie.spec check-requires place-requires number-requires returns)

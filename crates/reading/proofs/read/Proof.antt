@@ -1,37 +1,21 @@
 -- `reading::read` meets its contract. Assumes nothing.
-use Rattle.reading.proofs.ReadingLaws.{after-answer}
-use borrow.Author.Needs.{needs}
-use mathlib.Core.Path.{_∙_}
+use Rattle.checking.proofs.Demand2Acceptance.{accepted-exactly}
+use Rattle.checking.specs.declared.Answer.{Answer}
 use Rattle.reading.specs.Answers.{readAfter}
+use borrow.Author.Needs.{needs}
+use denote.Ref.{now}
+use mathlib.Core.Path.{_∙_, ap, sym}
 use Rattle.reading.proofs.read.Statement.{statement}
 use Rattle.reading.proofs.read.Tie as tie
 
 check-requires : tie.Need-check-requires
 check-requires c κs = search needs
 
-enum-known-edition : tie.Need-enum-known-edition
-enum-known-edition c = search needs
-
-read-in-requires : tie.Need-read-in-requires
-read-in-requires c κs = search needs
-
-enum-known-refusal : tie.Need-enum-known-refusal
-enum-known-refusal c = search needs
+read-after-requires : tie.Need-read-after-requires
+read-after-requires c κs = λ ed a. accepted-exactly _ ed .0 (sym (c .check .ensures) ∙ a) .full
 
 returns : tie.Need-returns
-returns c = c .read-in .ensures ∙ after-answer _ _ (c .before .before .before .before .check .ensures) (c .before .before .edition .given .1)
-
-returns-2 : tie.Need-returns-2
-unfolding readAfter
-returns-2 c = after-answer _ _ (c .before .before .before .check .ensures) (c .before .refusal .given .1)
+returns c = c .read-after .ensures ∙ ap (λ (a : Answer). readAfter a (now (c .before .before .before .args .line))) (c .before .check .ensures)
 
 pub read-spec : {M : Type 1} → statement M
-read-spec =
-    tie.close
-    (tie.spec
-    check-requires
-    enum-known-edition
-    read-in-requires
-    enum-known-refusal
-    returns
-    returns-2)
+read-spec = tie.close (tie.spec check-requires read-after-requires returns)

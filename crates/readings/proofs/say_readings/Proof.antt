@@ -13,11 +13,11 @@ abbrev μ-loop : tie.MeasureT-loop
 loop-holds : tie.Need-loop-holds Inv-loop μ-loop
 loop-holds c = search needs
 
-mul-reading : tie.Need-mul-reading Inv-loop μ-loop
-mul-reading c = search needs
+mul-entry : tie.Need-mul-entry Inv-loop μ-loop
+mul-entry c = search needs
 
-array-copy-out-reading : tie.Need-array-copy-out-reading Inv-loop μ-loop
-array-copy-out-reading c = search needs
+array-copy-out-entry : tie.Need-array-copy-out-entry Inv-loop μ-loop
+array-copy-out-entry c = search needs
 
 add-k : tie.Need-add-k Inv-loop μ-loop
 add-k c = search needs
@@ -41,8 +41,8 @@ say-readings-spec =
     Inv-loop
     μ-loop
     loop-holds
-    mul-reading
-    array-copy-out-reading
+    mul-entry
+    array-copy-out-entry
     add-k
     say-reading-requires
     loop-less

@@ -1,44 +1,78 @@
 -- `trial::trial_read` meets its contract: it stores and returns what `read` answers. Assumes nothing.
-use Rattle.reading.specs.Answers.{foundNumber, foundPlace, foundReading}
-use Rattle.spelling.specs.Same.{partsOf}
-use Rattle.spelling.specs.declared.Parts.{Parts}
+use Rattle.checking.specs.Check.{answerNumber, answerPlace}
+use Rattle.reading.specs.Answers.{readAs, readOf}
+use Rattle.reading.specs.declared.Readings.{Readings}
+use Rattle.trial.proofs.PackedLaws.{amounts-long, laid, numbers-long, room-there, unlaid}
+use Rattle.trial.specs.Packed.{amountsOf, editionIn, numbersOf}
 use borrow.Author.Needs.{needs}
-use mathlib.Core.Bool.{cond}
-use mathlib.Core.Path.{_∙_, ap}
+use denote.Ref.{now}
+use lib.ListN.{drop}
+use mathlib.Core.List.{_++_}
+use mathlib.Core.Path.{_∙_, ap, sym}
 use Rattle.trial.proofs.trial_read.Statement.{statement}
 use Rattle.trial.proofs.trial_read.Tie as tie
 
 read-requires : tie.Need-read-requires
 read-requires c κs = search needs
 
-found-place-requires : tie.Need-found-place-requires
-found-place-requires c κs = search needs
+number-requires : tie.Need-number-requires
+number-requires c κs = search needs
 
-found-reading-requires : tie.Need-found-reading-requires
-found-reading-requires c κs = search needs
+place-requires : tie.Need-place-requires
+place-requires c κs = search needs
 
-parts-of-requires : tie.Need-parts-of-requires
-parts-of-requires c κs = search needs
+edition-in-requires : tie.Need-edition-in-requires
+edition-in-requires c κs = search needs
 
-bit-requires : tie.Need-bit-requires
-bit-requires c κs = search needs
+has-room-requires : tie.Need-has-room-requires
+has-room-requires c κs = search needs
 
-found-number-requires : tie.Need-found-number-requires
-found-number-requires c κs = search needs
+put-all-requires : tie.Need-put-all-requires
+put-all-requires c κs = room-there (now (c .before .before .before .before .before .before .before .before .before .before .before .before .args .numbers)) (now (c .before .before .before .before .before .before .before .before .before .before .before .before .args .amounts)) (sym (c .before .before .before .has-room .ensures) ∙ c .before .before .if1 .taken)
+
+same-length : tie.Need-same-length
+same-length c = search needs
+
+same-length-2 : tie.Need-same-length-2
+same-length-2 c = search needs
 
 returns : tie.Need-returns
 returns c =
-    let found = c .before .before .before .before .before .read .ensures in
-    let parts = c .before .before .parts-of .ensures ∙ ap partsOf (c .before .before .before .found-reading .ensures ∙ ap foundReading found) in (
-      c .found-number .ensures ∙ ap foundNumber found,
+    let before = c .before .before .before .before in
+    let number = c .before .before .before .before .before .before .before .before .before .before .before .before in
+    let start = number .before .before .before .before in
+    let read = number .before .read .ensures in
+    let es = readOf (now (start .args .line)) .entries in
+    let there = sym (before .before .before .before .has-room .ensures) ∙ before .before .before .if1 .taken in (
+      number .number .ensures ∙ ap (λ (r : Readings). answerNumber (r .answer)) read,
       (
-        c .before .before .before .before .found-place .ensures ∙ ap foundPlace found,
+        laid _ (numbersOf es) (now (start .args .numbers)) _ 404 there (numbers-long (readAs es) 1 101) (c .before .before .before .put-all .ensures .0 ∙ ap (λ (r : Readings). numbersOf (r .entries) ++ drop 404 (now (start .args .numbers))) read),
         (
-          ap (λ (p : Parts). p .case) parts,
-          (
-            c .before .bit .ensures ∙ ap (λ (p : Parts). cond (p .below) 1 0) parts,
-            (ap (λ (p : Parts). p .first) parts, (ap (λ (p : Parts). p .second) parts, ap (λ (p : Parts). p .third) parts)),
-          ),
+          laid _ (amountsOf es) (now (start .args .amounts)) _ 101 there (amounts-long (readAs es) 1 101) (c .before .before .before .put-all .ensures .1 ∙ ap (λ (r : Readings). amountsOf (r .entries) ++ drop 101 (now (start .args .amounts))) read),
+          (c .before .before .before .before .before .before .before .before .before .before .edition-in .ensures ∙ ap (λ (r : Readings). editionIn (r .answer)) read, c .before .before .before .before .before .before .before .before .before .before .before .place .ensures ∙ ap (λ (r : Readings). answerPlace (r .answer)) read),
+        ),
+      ),
+    )
+
+same-length-3 : tie.Need-same-length-3
+same-length-3 c = search needs
+
+same-length-4 : tie.Need-same-length-4
+same-length-4 c = search needs
+
+returns-2 : tie.Need-returns-2
+returns-2 c =
+    let number = c .before .before .before .before .before .before in
+    let start = number .before .before .before .before in
+    let es = readOf (now (start .args .line)) .entries in
+    let read = number .before .read .ensures in
+    let none = sym (c .before .has-room .ensures) ∙ c .if1 .left in (
+      number .number .ensures ∙ ap (λ (r : Readings). answerNumber (r .answer)) read,
+      (
+        unlaid _ (numbersOf es) _ none,
+        (
+          unlaid _ (amountsOf es) _ none,
+          (c .before .before .before .before .edition-in .ensures ∙ ap (λ (r : Readings). editionIn (r .answer)) read, c .before .before .before .before .before .place .ensures ∙ ap (λ (r : Readings). answerPlace (r .answer)) read),
         ),
       ),
     )
@@ -46,11 +80,4 @@ returns c =
 pub trial-read-spec : {M : Type 1} → statement M
 trial-read-spec =
     tie.close
-    (tie.spec
-    read-requires
-    found-place-requires
-    found-reading-requires
-    parts-of-requires
-    bit-requires
-    found-number-requires
-    returns)
+    (tie.spec read-requires number-requires place-requires edition-in-requires has-room-requires put-all-requires same-length same-length-2 returns same-length-3 same-length-4 returns-2)

@@ -1,5 +1,6 @@
 -- `trial::trial_write` meets its contract: it stores and returns what `write` answers. Assumes nothing.
-use Rattle.reading.specs.declared.Reading.{Reading}
+use Rattle.reading.specs.Answers.{readings}
+use Rattle.reading.specs.declared.Entry.{Entry}
 use Rattle.writing.specs.Written.{written, after, outcomeNumber, outcomePlace}
 use borrow.Author.Needs.{needs}
 use denote.Ref.{now}
@@ -9,8 +10,8 @@ use mathlib.Core.Path.{_∙_, ap}
 use Rattle.trial.proofs.trial_write.Statement.{statement}
 use Rattle.trial.proofs.trial_write.Tie as tie
 
-readings-of-requires : tie.Need-readings-of-requires
-readings-of-requires c κs = search needs
+entries-of-requires : tie.Need-entries-of-requires
+entries-of-requires c κs = search needs
 
 write-requires : tie.Need-write-requires
 write-requires c κs = search needs
@@ -26,14 +27,14 @@ same-length c = search needs
 
 returns : tie.Need-returns
 returns c =
-    let given = c .before .before .before .before .before .before .readings-of .ensures in
+    let given = c .before .before .before .before .before .before .entries-of .ensures in
     let edition = c .before .before .before .before .before .before .before .before .before .args .edition in
     let before = now (c .before .before .before .before .before .before .before .before .before .args .buffer) in
-    let outcome = c .before .before .before .before .write .ensures .0 ∙ ap (λ (rs : List Reading). written rs edition (length before)) given in (
+    let outcome = c .before .before .before .before .write .ensures .0 ∙ ap (λ (es : List Entry). written (readings es) edition (length before)) given in (
       c .outcome-number .ensures ∙ ap outcomeNumber outcome,
       (
         c .before .outcome-place .ensures ∙ ap outcomePlace outcome,
-        c .before .before .before .before .write .ensures .1 ∙ ap (λ (rs : List Reading). after rs edition before) given,
+        c .before .before .before .before .write .ensures .1 ∙ ap (λ (es : List Entry). after (readings es) edition before) given,
       ),
     )
 
@@ -41,7 +42,7 @@ pub trial-write-spec : {M : Type 1} → statement M
 trial-write-spec =
     tie.close
     (tie.spec
-    readings-of-requires
+    entries-of-requires
     write-requires
     outcome-place-requires
     outcome-number-requires

@@ -2,7 +2,7 @@
 use Rattle.writing.proofs.WriteLaws.{breaks, done, filled-up, is-record, no-room, not-writable, record-length, within-row}
 use Rattle.writing.specs.Written.{filledBy}
 use borrow.Author.Needs.{needs}
-use mathlib.Core.Path.{refl}
+use mathlib.Core.Path.{_∙_, refl, sym}
 use native.Mathlib.Omega.{arith}
 use Rattle.writing.proofs.write_in.Statement.{statement}
 use Rattle.writing.proofs.write_in.Tie as tie
@@ -23,7 +23,7 @@ slice-aggregate-first-unwritten : tie.Need-slice-aggregate-first-unwritten
 slice-aggregate-first-unwritten c = record-length _ _ _ _ (c .before .before .put-all .ensures) (c .before .before .put-all .kept .1 .1 .0) (c .before .before .before .before .length .ensures)
 
 first-unwritten-requires : tie.Need-first-unwritten-requires
-first-unwritten-requires c κs = search needs
+first-unwritten-requires c κs = sym (record-length _ _ _ _ (c .before .before .put-all .ensures) (c .before .before .put-all .kept .1 .1 .0) (c .before .before .before .before .length .ensures)) ∙ c .before .before .before .before .length .ensures
 
 lead-of-requires : tie.Need-lead-of-requires
 lead-of-requires c κs = search needs

@@ -1,16 +1,19 @@
--- A text as long as an edition whose elements are legal and whose ties hold is a record of that edition. Assumes nothing.
-use mathlib.Core.Path.{_≡_, ap, _∙_}
-use mathlib.Core.Bool.{true}
+-- A text as long as an edition whose elements are legal and whose ties hold is a record of that edition; and every element of such a record is legal, those with it that the edition
+-- lacks. Assumes nothing.
+use mathlib.Core.Path.{_≡_, refl, ap, _∙_}
+use mathlib.Core.Bool.{Bool, true, false}
 use mathlib.Core.List.{List}
 use Prim.Native.Nat.{ℕ, _-_, _≤_}
 use native.Mathlib.Omega.{arith}
+use borrow.Author.Tests.{leb-true, leb-false}
+use lib.Dec.{leb}
 use lib.ListN.{length}
 use Rattle.text.specs.Bytes.{printable}
 use Rattle.text.proofs.Every.{every-at}
 use Rattle.layout.specs.declared.Edition.{Edition}
 use Rattle.layout.specs.Editions.{lengthOf, lastOf, editionOf}
 use Rattle.layout.specs.Page.{legal}
-use Rattle.layout.proofs.Beyond.{last-above}
+use Rattle.layout.proofs.Beyond.{last-above, legal-none}
 use Rattle.layout.proofs.Demand2Columns.{column-1, column-111}
 use Rattle.layout.proofs.RecordLaws.{shortest}
 use Rattle.ties.specs.Ties.{tie}
@@ -32,3 +35,10 @@ legal-record ed xs long lawful tied =
       lawful = lawful;
       tied = tied;
     }
+
+pub all-legal : (ed : Edition) (xs : List ℕ) → Acceptable ed xs → (e : ℕ) → 1 ≤ e → legal ed xs e ≡ true
+all-legal ed xs a e h = by (leb e (lastOf ed)) refl
+  where
+    by : (x : Bool) → leb e (lastOf ed) ≡ x → legal ed xs e ≡ true
+    by true f = a .lawful e h (leb-true _ _ f)
+    by false f = legal-none ed xs (a .full) e (leb-false _ _ f)

@@ -36,6 +36,9 @@ unfolding allows
 within ed xs a b e f h = in-digits (between a b) ed xs e (rw f) h
 
 -- what is there is at most b
-pub most : (a b : ℕ) (t : List ℕ) → Holds (between a b) t → blank t ≡ false → number t ≤ b
-most a b t (empty e) k = absurd (true≢false (sym e ∙ k))
-most a b t (holds e d p) k = greatest a b (number t) p
+pub at-most : (ed : Edition) (xs : List ℕ) (a b e : ℕ) → textsOf ed e ≡ Within a b → legal ed xs e ≡ true → blank (textOf e xs) ≡ false → number (textOf e xs) ≤ b
+at-most ed xs a b e f h k = by (within ed xs a b e f h)
+  where
+    by : Holds (between a b) (textOf e xs) → number (textOf e xs) ≤ b
+    by (empty n) = absurd (true≢false (sym n ∙ k))
+    by (holds n d p) = greatest a b (number (textOf e xs)) p

@@ -2,10 +2,12 @@
 --     listed-exactly, not-listed   the list has exactly the elements from 1 to 101 that are lost
 --     rising                       in rising order, so each once
 --     test-is-membership           the test of a number's bit says whether the list has that number, whatever the number
+--     has-exactly                  and of an element, whether it is lost
 --     ones-are-length              the ones of the two words are as many as the list has elements
 --     lowest-is-head               the zeros below the lowest one give the first of the list, 0 where it is empty
 --     same-losses, same-list       elements that are lost alike give the same set and the same list
 --     empty-set, empty-list        where no element is lost, both are empty
+--     none-lost                    where the set is empty, none is lost
 use mathlib.Core.Path.{_≡_, refl, sym, ap, ap₂, _∙_}
 use mathlib.Core.Logic.{_⊎_, inl, inr, ⊎-elim}
 use mathlib.Core.List.{List, [], _∷_, _++_}
@@ -14,6 +16,7 @@ use Prim.Native.Nat.{ℕ, _+_, _-_, _<_, _≤_}
 use native.Mathlib.Nat.{add-comm}
 use native.Mathlib.Omega.{arith}
 use lib.ListN.{length, length-append}
+use Rattle.losses.specs.declared.Losses.{Losses}
 use Rattle.losses.specs.Losses.{elements, word, losses, noLosses, lostList, lossesOf, hasBit, hasLoss, countOf, lowestOf, member, first, Rising}
 use Rattle.losses.proofs.Words.{has-bit, has-no-bit, word-ones, word-first, word-none, word-some}
 use Rattle.losses.proofs.Listed.{none-outside, listed, elements-split, elements-rise, same-word, same-elements, no-word, no-elements}
@@ -58,6 +61,10 @@ module _ (f : ℕ → Bool) where
         (λ h. ⊎-elim (in-low h) (λ h. ⊎-elim (in-high h) (λ h. ⊎-elim (past-101 h) past-128 (up-to-or-past e 128)) (up-to-or-past e 101)) (up-to-or-past e 64))
         (up-to-or-past e 0)
 
+    -- an element is in the set exactly where it passes the test
+    pub has-exactly : 1 ≤ e → e ≤ 101 → hasLoss (lossesOf f) e ≡ f e
+    has-exactly h l = test-is-membership ∙ listed-exactly h l
+
   pub rising : Rising (lostList f)
   rising = elements-rise f 0 1 101 (omega arith)
 
@@ -93,3 +100,9 @@ module _ (f : ℕ → Bool) (kept : (e : ℕ) → 1 ≤ e → e ≤ 101 → f e 
 
   pub empty-list : lostList f ≡ []
   empty-list = same-list f (λ e. false) kept ∙ no-elements 1 101
+
+-- and none passes a test whose set is the empty one
+pub none-lost : (f : ℕ → Bool) → lossesOf f ≡ noLosses → (e : ℕ) → 1 ≤ e → e ≤ 101 → f e ≡ false
+none-lost f n e h l =
+    let never : ℕ → Bool = λ e. false in
+    sym (has-exactly f e h l) ∙ ap (λ (s : Losses). hasLoss s e) (n ∙ sym (empty-set never (λ e h l. refl))) ∙ has-exactly never e h l

@@ -1,14 +1,16 @@
 -- A plain place has one digit in each edition, by its hemispheres and the side of 90 degrees, so the lowest one is that. Assumes nothing.
 use mathlib.Core.Path.{_≡_, refl, sym, ap, _∙_}
-use mathlib.Core.Bool.{Bool, true, false, cond, not, _&&_, Bool·beq}
-use Prim.Native.Nat.{ℕ, _-_, _%_, _<_, _≤_}
+use mathlib.Core.Bool.{Bool, true, false, cond, not, _&&_, _||_, Bool·beq}
+use Prim.Native.Nat.{ℕ, _+_, _-_, _%_, _<_, _≤_}
 use native.Mathlib.Omega.{arith}
-use borrow.Author.Tests.{eq-eqb, ne-eqb, le-leb, lt-leb, ltb-true, ltb-false}
+use borrow.Author.Tests.{eq-eqb, ne-eqb, eqb-true, le-leb, lt-leb, ltb-true, ltb-false}
 use lib.Dec.{eqb, leb, ltb}
 use Rattle.text.specs.Bytes.{every, valueFrom}
 use Rattle.text.specs.First.{firstFrom}
 use Rattle.text.specs.Texts.{among, allows}
+use Rattle.text.proofs.Below.{passes-below}
 use Rattle.text.proofs.First.{same-first}
+use Rattle.text.proofs.Ways.{imply}
 use Rattle.layout.specs.declared.Edition.{Edition}
 use Rattle.layout.specs.declared.Edition.the-variants.{One, Three, Four}
 use Rattle.layout.specs.Page.{element, page}
@@ -16,6 +18,7 @@ use Rattle.places.specs.Places.{south, west, octantFits, hundredths, cir
 use Rattle.places.specs.Digits.{keepsTie, mayStand, suits, lowestDigit}
 use Rattle.places.specs.Plain.{Plain, digitIn}
 use Rattle.places.proofs.DigitLaws.{off-equator}
+use Rattle.places.proofs.Gives.{both}
 
 -- the edition that an arm was taken at
 pub table-at : {a b : Edition} (far isSouth isWest : Bool) → a ≡ b → digitIn b far isSouth isWest ≡ digitIn a far isSouth isWest
@@ -49,6 +52,17 @@ only-one Four far false false = refl
 only-one Four far false true = refl
 only-one Four far true false = refl
 only-one Four far true true = refl
+
+-- and a digit that may stand, on its side of 90 degrees, is the one that the table has for its hemispheres
+abbrev in-table : Edition → Bool → ℕ → Bool
+in-table ed far d = not (mayStand ed d && sides ed far d) || eqb (digitIn ed far (south ed d) (west ed d)) (48 + d)
+
+each-in-table : (ed : Edition) (far : Bool) (d : ℕ) → d ≤ 9 → in-table ed far d ≡ true
+unfolding sides allows element page every valueFrom south west
+each-in-table One false d h = passes-below 10 (in-table One false) refl d (omega arith)
+each-in-table One true d h = passes-below 10 (in-table One true) refl d (omega arith)
+each-in-table Three far d h = passes-below 10 (in-table Three far) refl d (omega arith)
+each-in-table Four far d h = passes-below 10 (in-table Four far) refl d (omega arith)
 
 module _ (latitude longitude : ℕ) (p : Plain latitude longitude) where
   -- east and west of a plain place are two
@@ -88,3 +102,8 @@ module _ (latitude longitude : ℕ) (p : Plain latitude longitude) where
     -- by what the code found of the place
     pub by-place : (x y z : Bool) → x ≡ ltb 900 longitude → y ≡ south from d → z ≡ west from d → (r : ℕ) → r ≡ digitIn to x y z → r ≡ lowestDigit from to d latitude longitude
     by-place x y z e f g r h = h ∙ rw (e, f, g) plain-digit
+
+  -- a digit that may stand and keeps tie 2 is the only one for its place
+  pub only-digit : (ed : Edition) (d : ℕ) → d ≤ 9 → mayStand ed d ≡ true → keepsTie ed d longitude ≡ true → lowestDigit ed ed d latitude longitude ≡ 48 + d
+  only-digit ed d small stands tied =
+      sym (plain-digit ed ed d) ∙ eqb-true _ _ (imply _ _ (each-in-table ed (ltb 900 longitude) d small) (both stands (sym (tie ed d) ∙ tied)))

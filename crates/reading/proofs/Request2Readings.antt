@@ -10,10 +10,10 @@ use Rattle.text.specs.Bytes.{blank, number}
 use Rattle.text.specs.declared.Texts.the-variants.{Within}
 use Rattle.text.specs.Texts.{among}
 use Rattle.layout.specs.declared.Edition.{Edition}
-use Rattle.layout.specs.Page.{element, page, textOf, textsOf}
+use Rattle.layout.specs.Page.{element, page, textOf}
 use Rattle.layout.proofs.Beyond.{last-above}
 use Rattle.layout.proofs.Elements.{in-each}
-use Rattle.layout.proofs.Holding.{within, most}
+use Rattle.layout.proofs.Holding.{at-most}
 use Rattle.places.specs.declared.Place.{Place}
 use Rattle.places.specs.Places.{placeAt, Tens}
 use Rattle.places.proofs.Request2Places.{place-tens, latitude-most, longitude-most}
@@ -44,10 +44,6 @@ module _ (ed : Edition) (xs : List ℕ) (a : Acceptable ed xs) where
   abbrev held : Place
   held = placeAt ed (number (textOf 6 xs)) (number (textOf 7 xs)) (number (textOf 8 xs))
 
-  -- the number in columns that are there
-  at-most : (e n : ℕ) → 1 ≤ e → e ≤ 8 → textsOf ed e ≡ Within 0 n → blank (textOf e xs) ≡ false → number (textOf e xs) ≤ n
-  at-most e n l h f b = most 0 n (textOf e xs) (within ed xs 0 n e f (a .lawful e l (omega (arith, last-above ed)))) b
-
   limits : (p : Place) → placeOf ed (textOf 6 xs) (textOf 7 xs) (textOf 8 xs) ≡ At p → (natAbs (p .latitude) ≤ 9000) × (p .longitude ≤ 35990)
   unfolding placeOf element page
   limits p = by (blank (textOf 6 xs)) (blank (textOf 7 xs)) (blank (textOf 8 xs)) refl refl
@@ -58,8 +54,8 @@ module _ (ed : Edition) (xs : List ℕ) (a : Acceptable ed xs) where
       by false false true g h e = let n : _≡_ {A = ℕ} 0 1 = cc in absurd (omega arith)
       by false false false g h e =
           let same : held ≡ p = cc in
-          let north = at-most 7 900 (lit≤ tt) (lit≤ tt) (in-each ed 7 (Within 0 900) refl refl refl) g in
-          let far = at-most 8 1800 (lit≤ tt) (lit≤ tt) (in-each ed 8 (Within 0 1800) refl refl refl) h in
+          let north = at-most ed xs 0 900 7 (in-each ed 7 (Within 0 900) refl refl refl) (a .lawful 7 (lit≤ tt) (omega (arith, last-above ed))) g in
+          let far = at-most ed xs 0 1800 8 (in-each ed 8 (Within 0 1800) refl refl refl) (a .lawful 8 (lit≤ tt) (omega (arith, last-above ed))) h in
           rw (← same) (latitude-most ed (number (textOf 6 xs)) (number (textOf 7 xs)) (number (textOf 8 xs)) north, longitude-most ed (number (textOf 6 xs)) (number (textOf 7 xs)) (number (textOf 8 xs)) (omega arith))
 
 -- Every accepted record, each of the elements 6 to 8 that is not missing.

@@ -1,18 +1,18 @@
 -- Column 12 of the recast record: it stays, or it is the lowest digit with the same place that keeps tie 2. Assumes nothing.
 use mathlib.Core.Path.{_≡_, refl, sym, ap, _∙_}
-use mathlib.Core.Logic.{_⊎_, inl, inr}
-use mathlib.Core.Bool.{Bool, true, false}
+use mathlib.Core.Logic.{_⊎_, inl, inr, ⊎-elim}
+use mathlib.Core.Bool.{Bool, true, false, true≢false}
 use mathlib.Core.List.{List, [], _∷_}
 use Prim.Native.Nat.{ℕ}
 use native.Mathlib.Omega.{arith}
 use lib.ListN.{getD}
-use Rattle.text.specs.Bytes.{blank}
+use Rattle.text.specs.Bytes.{blank, number}
 use Rattle.layout.specs.declared.Edition.{Edition}
 use Rattle.layout.specs.Page.{textOf}
 use Rattle.layout.proofs.Beyond.{last-above}
 use Rattle.layout.proofs.RecordLaws.{begins}
 use Rattle.checking.specs.Acceptable.{Acceptable}
-use Rattle.places.specs.Digits.{crosses}
+use Rattle.places.specs.Digits.{lowestDigit, crosses}
 use Rattle.recasting.proofs.Request9Places.{standing, digit-there, HasDigit, every-place}
 use Rattle.recasting.specs.Recast.{hemisphere, recastText}
 use Rattle.recasting.proofs.PlaceLaws.{six, chosen, by-tests}
@@ -46,6 +46,18 @@ module _ (from to : Edition) (xs : List ℕ) (a : Acceptable from xs) where
       by false b f g = stays (inl f) (written false b f g ∙ own-six)
       by true true f g = stays (inr g) (written true true f g ∙ own-six)
       by true false f g = let d = every-place from to xs a g in moves f g d (written true false f g ∙ ap (λ (n : ℕ). n ∷ []) (d .lowest))
+
+  -- it does one of the two
+  pub not-both : (crosses from to ≡ false) ⊎ (blank (textOf 6 xs) ≡ true) → crosses from to ≡ true → blank (textOf 6 xs) ≡ false → ⊥
+  not-both w c b = ⊎-elim (λ n. true≢false (sym c ∙ n)) (λ y. true≢false (sym y ∙ b)) w
+
+  pub crossed : crosses from to ≡ true → blank (textOf 6 xs) ≡ false →
+      textOf 6 (result from to xs a) ≡ lowestDigit from to (number (textOf 6 xs)) (number (textOf 7 xs)) (number (textOf 8 xs)) ∷ []
+  crossed c b = by column
+    where
+      by : Column → textOf 6 (result from to xs a) ≡ lowestDigit from to (number (textOf 6 xs)) (number (textOf 7 xs)) (number (textOf 8 xs)) ∷ []
+      by (stays w e) = absurd (not-both w c b)
+      by (moves x y f e) = e ∙ ap (λ (n : ℕ). n ∷ []) (sym (f .lowest))
 
   -- it is there exactly where it was
   pub same-there : blank (textOf 6 (result from to xs a)) ≡ blank (textOf 6 xs)

@@ -100,7 +100,7 @@ module _ (from to : Edition) (xs : List ℕ) (a : Acceptable from xs) where
       by false true k n = ap (legalText to e) (as-it-was from to xs a e plain h (leb-true _ _ n) l k) ∙ kept-legal from to e (textOf e xs) plain m k
       by false false k n = blank-legal to e (textOf e (result from to xs a)) m (new-blank from to xs a e plain h l (leb-false _ _ n) k)
 
-  pub every-legal : (e : ℕ) → 1 ≤ e → e ≤ lastOf to → legal to (result from to xs a) e ≡ true
+  every-legal : (e : ℕ) → 1 ≤ e → e ≤ lastOf to → legal to (result from to xs a) e ≡ true
   every-legal e h l = by (eqb e 6) (eqb e 65) (eqb e 1) refl refl refl
     where
       by : (x y z : Bool) → eqb e 6 ≡ x → eqb e 65 ≡ y → eqb e 1 ≡ z → legal to (result from to xs a) e ≡ true

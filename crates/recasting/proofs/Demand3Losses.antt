@@ -136,7 +136,7 @@ module _ (ed : Edition) (xs : List ℕ) (a : Acceptable ed xs) where
       by (Columns.moves c b f e) = absurd (true≢false (sym c ∙ not-crossing ed))
 
   -- column 111 names the edition that it named
-  version-was : textOf 65 xs ≡ digitOf ed ∷ []
+  pub version-was : textOf 65 xs ≡ digitOf ed ∷ []
   unfolding element page
   version-was =
       one-byte xs 65 refl (omega (arith, a .full, begins ed 65 (lit≤ tt) (omega (arith, last-above ed)))) ∙

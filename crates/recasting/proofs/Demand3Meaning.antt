@@ -13,12 +13,13 @@ use Rattle.text.proofs.Among.{either-half, among-cases, at-number}
 use Rattle.layout.specs.declared.Edition.{Edition}
 use Rattle.layout.specs.Editions.{lastOf}
 use Rattle.layout.specs.Page.{textOf, textsOf, mayBeBlank, legal}
-use Rattle.layout.proofs.Beyond.{text-none, legal-none}
+use Rattle.layout.proofs.Beyond.{text-none}
 use Rattle.places.specs.declared.Place.{Place}
 use Rattle.places.specs.Digits.{crosses}
 use Rattle.places.proofs.DigitLaws.{alike-places}
 use Rattle.ties.specs.Ties.{there}
 use Rattle.checking.specs.Acceptable.{Acceptable}
+use Rattle.checking.proofs.LegalLaws.{all-legal}
 use Rattle.reading.specs.declared.Reading.the-variants.{Missing, At}
 use Rattle.reading.specs.Readings.{placeOf, temperature, lead, itemOf}
 use Rattle.meanings.specs.declared.Sense.{Sense}
@@ -32,7 +33,7 @@ use Rattle.recasting.proofs.ResultLaws.{Plain, result, result-long, res
 use Rattle.layout.proofs.Lacking.{nothing-there}
 use Rattle.recasting.proofs.NeverLaws.{shared, column-12, same}
 use Rattle.recasting.proofs.ColumnLaws.{Column, stays, moves, column, same-there}
-use Rattle.recasting.proofs.Demand3Accepted.{every-legal}
+use Rattle.recasting.proofs.Demand3Accepted.{acceptable}
 
 -- a blank digit gives no place
 no-place : (ed : Edition) (q la lo : List ℕ) → blank q ≡ true → placeOf ed q la lo ≡ Missing
@@ -59,7 +60,7 @@ abbrev sense : Meaning → Sense
 sense (reads r) = Alike
 sense (says t s) = s
 
-not-there : (t : List ℕ) → there t ≡ true → blank t ≡ false
+pub not-there : (t : List ℕ) → there t ≡ true → blank t ≡ false
 not-there t h = by (blank t) refl
   where
     by : (x : Bool) → blank t ≡ x → x ≡ false
@@ -142,20 +143,24 @@ module _ (from to : Edition) (xs : List ℕ) (a : Acceptable from xs) where
         by false y f g = absurd (true≢false (sym (rw (b, p, other, f)) ∙ k))
 
     -- so the target has such an element
-    pub held-there : eqb e 6 ≡ false → blank (textOf e xs) ≡ false → lostAt from to xs e ≡ false → e ≤ lastOf to
+    held-there : eqb e 6 ≡ false → blank (textOf e xs) ≡ false → lostAt from to xs e ≡ false → e ≤ lastOf to
     held-there p b k = by (leb e (lastOf to)) refl
       where
         by : (x : Bool) → leb e (lastOf to) ≡ x → e ≤ lastOf to
         by true f = leb-true _ _ f
         by false f = absurd (true≢false (sym (kept-there p b k .0) ∙ nothing-there to e (leb-false _ _ f) l (textOf e xs)))
 
-    pub held-here : blank (textOf e xs) ≡ false → e ≤ lastOf from
+    held-here : blank (textOf e xs) ≡ false → e ≤ lastOf from
     unfolding every
     held-here b = by (leb e (lastOf from)) refl
       where
         by : (x : Bool) → leb e (lastOf from) ≡ x → e ≤ lastOf from
         by true f = leb-true _ _ f
         by false f = absurd (true≢false (sym (ap blank (text-none from xs (a .full) e (leb-false _ _ f))) ∙ b))
+
+    -- and has the characters that it had
+    pub text-kept : eqb e 6 ≡ false → blank (textOf e xs) ≡ false → lostAt from to xs e ≡ false → textOf e (result from to xs a) ≡ textOf e xs
+    text-kept p b k = as-it-was from to xs a e (p, other) h (held-here b) (held-there p b k) k
 
     pub meaning-kept : blank (textOf e xs) ≡ false → lostAt from to xs e ≡ false → meaningOf to (result from to xs a) e ≡ meaningOf from xs e
     unfolding meaningOf
@@ -165,8 +170,7 @@ module _ (from to : Edition) (xs : List ℕ) (a : Acceptable from xs) where
         by true s = rw s (ap reads (item-kept (lead e) s))
         by false s =
             let p = alone s in
-            let t : textOf e (result from to xs a) ≡ textOf e xs = as-it-was from to xs a e (p, other) h (held-here b) (held-there p b k) k in
-            rw (s, t) (ap (says (textOf e xs)) (sym (same-sense _ _ (kept-there p b k .1))))
+            rw (s, text-kept p b k) (ap (says (textOf e xs)) (sym (same-sense _ _ (kept-there p b k .1))))
 
     -- an element that is filled is blank in the result exactly where it is lost
     pub not-lost-filled : blank (textOf e xs) ≡ false → lostAt from to xs e ≡ false → blank (textOf e (result from to xs a)) ≡ false
@@ -177,7 +181,7 @@ module _ (from to : Edition) (xs : List ℕ) (a : Acceptable from xs) where
 
         by : (x : Bool) → eqb e 6 ≡ x → blank (textOf e (result from to xs a)) ≡ false
         by true p = at-number (λ n. blank (textOf n xs) ≡ false → blank (textOf n (result from to xs a)) ≡ false) e 6 p six b
-        by false p = ap blank (as-it-was from to xs a e (p, other) h (held-here b) (held-there p b k) k) ∙ b
+        by false p = ap blank (text-kept p b k) ∙ b
 
     pub blank-stays : blank (textOf e xs) ≡ true → lostAt from to xs e ≡ false → blank (textOf e (result from to xs a)) ≡ true
     unfolding every
@@ -213,13 +217,9 @@ module _ (from to : Edition) (xs : List ℕ) (a : Acceptable from xs) where
     expressible b k = record {
       text = result from to xs a;
       full = result-long from to xs a;
-      lawful = λ f m n s. by f m (leb f (lastOf to)) refl;
+      lawful = λ f m n s. all-legal to (result from to xs a) (acceptable from to xs a) f m;
       means = meaning-kept b k;
     }
-      where
-        by : (f : ℕ) → 1 ≤ f → (x : Bool) → leb f (lastOf to) ≡ x → legal to (result from to xs a) f ≡ true
-        by f m true y = every-legal from to xs a f m (leb-true _ _ y)
-        by f m false y = legal-none to (result from to xs a) (result-long from to xs a) f (leb-false _ _ y)
 
     said : (x : Expressible from to xs e) → shares e ≡ false → says (textOf e (x .text)) (senseOf to e (textOf e (x .text))) ≡ says (textOf e xs) (senseOf from e (textOf e xs))
     unfolding meaningOf

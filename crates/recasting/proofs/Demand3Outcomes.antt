@@ -79,7 +79,7 @@ module _ (from to : Edition) (xs : List ℕ) (edition : ℕ) (before : List ℕ)
   unfolding leftAfter leftTo filledBy
   filled = rw (ok, names, is-done from to xs (length before) room)
 
-  is-front : front to xs edition before ≡ recastRecord from to xs
+  pub is-front : front to xs edition before ≡ recastRecord from to xs
   is-front = ap (take (lengthOf to)) filled ∙ take-at (recastRecord from to xs) (drop (lengthOf to) before) (lengthOf to) (result-long from to xs fine)
 
   as-demanded : Success xs edition before (lossesOf (lostAt from to xs))

@@ -1,6 +1,5 @@
 -- The recast record is the only one that fits: element by element its text is determined. Assumes nothing.
 use mathlib.Core.Path.{_≡_, refl, sym, ap, _∙_}
-use mathlib.Core.Logic.{_⊎_, ⊎-elim}
 use mathlib.Core.Bool.{Bool, true, false, true≢false}
 use mathlib.Core.List.{List, [], _∷_}
 use Prim.Native.Nat.{ℕ, _+_, _≤_}
@@ -16,20 +15,20 @@ use Rattle.layout.specs.Page.{widthOf, textOf}
 use Rattle.layout.proofs.Elements.{last-below}
 use Rattle.layout.proofs.RecordLaws.{text-long, same-record}
 use Rattle.checking.specs.Acceptable.{Acceptable}
-use Rattle.places.specs.Digits.{suits, crosses}
+use Rattle.places.specs.Digits.{suits}
 use Rattle.places.proofs.Demand3Digits.{digit-found}
 use Rattle.recasting.proofs.Request9Places.{HasDigit}
 use Rattle.meanings.specs.Kept.{lostText, lostAt}
 use Rattle.recasting.specs.Recast.{recastRecord}
 use Rattle.meanings.specs.Lost.{Expressible}
 use Rattle.recasting.specs.Fits.{Lowest, Column12, stays, moves, Recasts}
-use Rattle.recasting.proofs.ResultLaws.{result, result-long, as-it-was, lost-blank}
+use Rattle.recasting.proofs.ResultLaws.{result, result-long, lost-blank}
 use Rattle.recasting.proofs.ColumnLaws as Columns
 use Rattle.recasting.proofs.Demand3Accepted.{version-text}
-use Rattle.recasting.proofs.Demand3Meaning.{lost-exactly, expressible, held-here, blank-stays}
+use Rattle.recasting.proofs.Demand3Meaning.{lost-exactly, expressible, text-kept, blank-stays}
 
 -- two blank texts of one length are equal
-two-blanks : (n : ℕ) (s t : List ℕ) → length s ≡ n → length t ≡ n → blank s ≡ true → blank t ≡ true → s ≡ t
+pub two-blanks : (n : ℕ) (s t : List ℕ) → length s ≡ n → length t ≡ n → blank s ≡ true → blank t ≡ true → s ≡ t
 two-blanks n s t f g a b = sym (blanks-back n s f a) ∙ blanks-back n t g b
 
 blank-is-kept : (from to : Edition) (e : ℕ) (t : List ℕ) → blank t ≡ true → lostText from to e t ≡ false
@@ -52,9 +51,6 @@ module _ (from to : Edition) (xs : List ℕ) (a : Acceptable from xs) where
       by true true p q = omega (arith, leb-true c d p, leb-true d c q)
       by false y p q = absurd (true≢false (sym (m .suited) ∙ l .lower d (leb-false c d p)))
       by true false p q = absurd (true≢false (sym (l .suited) ∙ m .lower c (leb-false d c q)))
-
-  stays-or-moves : (crosses from to ≡ false) ⊎ (blank (textOf 6 xs) ≡ true) → crosses from to ≡ true → blank (textOf 6 xs) ≡ false → ⊥
-  stays-or-moves w c b = ⊎-elim (λ n. true≢false (sym c ∙ n)) (λ y. true≢false (sym y ∙ b)) w
 
   pub column-fits : Column12 from to xs (result from to xs a)
   column-fits = by (Columns.column from to xs a)
@@ -79,7 +75,7 @@ module _ (from to : Edition) (xs : List ℕ) (a : Acceptable from xs) where
       by-loss : (e : ℕ) → 1 ≤ e → e ≤ lastOf to → eqb e 6 ≡ false → eqb e 65 ≡ false → blank (textOf e xs) ≡ false → Expressible from to xs e → (k : Bool) → lostAt from to xs e ≡ k →
           textOf e (result from to xs a) ≡ textOf e xs
       by-loss e h l p q b x true k = absurd (lost-exactly from to xs a e h (omega (arith, last-below to)) q .0 k .none x)
-      by-loss e h l p q b x false k = as-it-was from to xs a e (p, q) h (held-here from to xs a e h (omega (arith, last-below to)) q b) l k
+      by-loss e h l p q b x false k = text-kept from to xs a e h (omega (arith, last-below to)) q p b k
 
   -- any other that fits has the same texts
   module _ (ys : List ℕ) (r : Recasts from to xs ys) where
@@ -88,8 +84,8 @@ module _ (from to : Edition) (xs : List ℕ) (a : Acceptable from xs) where
       where
         by : Column12 from to xs ys → Column12 from to xs (result from to xs a) → textOf 6 ys ≡ textOf 6 (result from to xs a)
         by (stays w e) (stays v f) = e ∙ sym f
-        by (stays w e) (moves c b d l f) = absurd (stays-or-moves w c b)
-        by (moves c b d l e) (stays w f) = absurd (stays-or-moves w c b)
+        by (stays w e) (moves c b d l f) = absurd (Columns.not-both from to xs a w c b)
+        by (moves c b d l e) (stays w f) = absurd (Columns.not-both from to xs a w c b)
         by (moves c b d l e) (moves k m n o f) = e ∙ ap (λ (z : ℕ). (48 + z) ∷ []) (one-lowest d n l o) ∙ sym f
 
     both-blank : (e : ℕ) → e ≤ lastOf to → blank (textOf e ys) ≡ true → blank (textOf e (result from to xs a)) ≡ true → textOf e ys ≡ textOf e (result from to xs a)

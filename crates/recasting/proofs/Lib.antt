@@ -1,4 +1,4 @@
--- The laws that the functions of this crate cite, and the promises of demand 3 and of requests 3 and 9.
+-- The laws that the functions of this crate cite, and the promises of demand 3 and of requests 3, 9 and 13.
 pub mod PlaceLaws
 pub mod WidenLaws
 pub mod FillLaws
@@ -13,5 +13,7 @@ pub mod Demand3Accepted
 pub mod Demand3Meaning
 pub mod Demand3Losses
 pub mod FitLaws
+pub mod ReturnLaws
 pub mod Demand3Outcomes
 pub mod Request3Dates
+pub mod Request13ThereAndBack

@@ -40,7 +40,7 @@ pub digit-there : (d : ℕ) → blank (standing d) ≡ false
 unfolding every
 digit-there d = rw (le-leb 32 (48 + d) (omega arith), lt-leb (48 + d) 32 (omega arith))
 
-digit-number : (d : ℕ) → number (standing d) ≡ d
+pub digit-number : (d : ℕ) → number (standing d) ≡ d
 unfolding valueFrom
 digit-number d = omega arith
 

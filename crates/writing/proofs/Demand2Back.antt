@@ -1,24 +1,22 @@
 -- Demand 2: reading a record and writing it back gives the same characters. Assumes nothing.
-use mathlib.Core.Path.{_≡_, refl, ap, _∙_}
-use mathlib.Core.Bool.{Bool, true, false}
+use mathlib.Core.Path.{_≡_, ap, _∙_}
+use mathlib.Core.Bool.{true}
 use mathlib.Core.List.{List, _++_}
 use Prim.Native.Nat.{ℕ, _+_, _-_, _≤_}
 use native.Mathlib.Omega.{arith}
-use borrow.Author.Tests.{leb-true, leb-false}
-use lib.Dec.{leb}
 use lib.ListN.{length, drop}
 use Rattle.numerals.specs.Spelling.{spell}
 use Rattle.layout.specs.declared.Edition.{Edition}
 use Rattle.layout.specs.declared.Named.the-variants.{Known}
 use Rattle.layout.specs.Editions.{asked, lengthOf, lastOf}
-use Rattle.layout.specs.Page.{widthOf, textOf, legal}
+use Rattle.layout.specs.Page.{widthOf, textOf}
 use Rattle.layout.proofs.Elements.{last-below}
-use Rattle.layout.proofs.Beyond.{legal-none}
 use Rattle.ties.specs.Ties.{tie}
 use Rattle.checking.specs.declared.Answer.the-variants.{Accepted}
 use Rattle.checking.specs.Check.{checked}
 use Rattle.checking.specs.Acceptable.{Acceptable}
 use Rattle.checking.proofs.Demand2Acceptance.{accepted-exactly}
+use Rattle.checking.proofs.LegalLaws.{all-legal}
 use Rattle.reading.specs.declared.Reading.{Reading}
 use Rattle.reading.specs.Readings.{lead, itemOf, readingOf}
 use Rattle.reading.specs.Answers.{readOf, readings}
@@ -45,16 +43,9 @@ module _ (ed : Edition) (xs : List ℕ) (a : Acceptable ed xs) (rs : List Readin
   pub record-back : recordOf ed rs ≡ xs
   record-back = same-record ed (recordOf ed rs) xs text-back (record-long ed rs) (a .full)
 
-  all-legal : (e : ℕ) → 1 ≤ e → legal ed xs e ≡ true
-  all-legal e l = by (leb e (lastOf ed)) refl
-    where
-      by : (t : Bool) → leb e (lastOf ed) ≡ t → legal ed xs e ≡ true
-      by true f = a .lawful e l (leb-true _ _ f)
-      by false f = legal-none ed xs (a .full) e (leb-false _ _ f)
-
   each-written : (e : ℕ) → 1 ≤ e → e ≤ 101 → writes ed rs xs e ≡ true
   unfolding writes
-  each-written e l h = rw (all-legal e l, as-read e l h) (same-self (readingOf ed xs e))
+  each-written e l h = rw (all-legal ed xs a e l, as-read e l h) (same-self (readingOf ed xs e))
 
   -- written to its own edition, where there is room, they are taken, and the record is the one that was read
   pub written-back : (room : ℕ) → lengthOf ed ≤ room → writtenIn ed rs room ≡ Done

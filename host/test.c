@@ -1,6 +1,6 @@
 /*
  * Tests immt_check and immt_recast through immt.h, as a C program meets them: every refusal number, the places and loss words, the bytes
- * around the lent buffer, and the worked cases of the rules.
+ * around the lent buffer, the worked cases of the rules, and records that go there and back, between all editions.
  *
  * The answers are proved; what is tried here is what no proof has seen: the header, the way numbers and slices cross into C, and the
  * machine code. Prints a line for each test that fails and ends with 'tests N failed M'.
@@ -316,6 +316,108 @@ static void worked_cases(void)
     both_refuse("P12", with(blank(4), 42, "A BC"), IMMT_REFUSED_ELEMENT, 42);
 }
 
+/* Recasts into a guarded buffer with room for every edition, and hands out the result: 1 where it is made and writes the result and no more. */
+static int recast_into(struct record *result, const struct record *r, uint64_t edition, struct answer *a)
+{
+    uint8_t block[GUARD + IMMT_LENGTH_MOST + GUARD], expected[sizeof block];
+    size_t i;
+    for (i = 0; i < sizeof block; i++)
+        expected[i] = block[i] = (uint8_t)(128 + i % 101);
+    a->place = a->low = a->high = unset;
+    a->number = immt_recast(r->bytes, r->length, edition, block + GUARD, IMMT_LENGTH_MOST, &a->place, &a->low, &a->high);
+    *result = blank(edition);
+    memcpy(result->bytes, block + GUARD, result->length);
+    memcpy(expected + GUARD, block + GUARD, result->length);
+    return a->number == IMMT_OK && a->place == 0 && memcmp(block, expected, sizeof block) == 0;
+}
+
+/* Whether each element came home: blank where it was lost, column 12 with this digit, every other with its first characters. */
+static int each_came_home(const struct record *r, const struct record *home, struct answer first, char digit)
+{
+    unsigned element;
+    for (element = 1; element <= last_of((uint64_t)(r->bytes[110] - '0')); element++) {
+        const uint8_t *before = r->bytes + column(element) - 1, *after = home->bytes + column(element) - 1;
+        if (IMMT_LOST(first.low, first.high, element))
+            before = (const uint8_t *)"       ";
+        if (element == 6 ? after[0] != (uint8_t)digit : memcmp(before, after, width(element)) != 0)
+            return 0;
+    }
+    return 1;
+}
+
+/* There, home and there again: the first recast loses this, the others nothing, and column 12 comes home with this digit. */
+static void comes_home(struct record r, uint64_t edition, struct answer lost, char digit)
+{
+    struct record there, home, again;
+    struct answer first, second, third;
+    uint64_t own = (uint64_t)(r.bytes[110] - '0');
+    int made = recast_into(&there, &r, edition, &first) && recast_into(&home, &there, own, &second) && recast_into(&again, &home, edition, &third);
+    unsigned before = failures;
+    test(made, "there and back: the recasts and the bytes around them");
+    if (made) {
+        test(first.low == lost.low && first.high == lost.high, "there and back: what the first recast loses");
+        test(second.low == 0 && second.high == 0 && third.low == 0 && third.high == 0, "there and back: the others lose nothing");
+        test(each_came_home(&r, &home, first, digit), "there and back: the elements");
+        test(memcmp(again.bytes, there.bytes, sizeof there.bytes) == 0, "there and back: the third gives what the first gave");
+    }
+    if (failures > before)
+        printf("  from %" PRIu64 " to %" PRIu64 " with %.8s in columns 12 to 19\n", own, edition, (const char *)r.bytes + 11);
+}
+
+/* What an edition holds that another lacks or reads otherwise, and some elements that every edition has. */
+static struct record rich(uint64_t edition)
+{
+    struct record r = with(with(with(with(blank(edition), 2, "2003"), 14, "1"), 40, "1"), 41, "4");
+    unsigned element;
+    r = with(with(with(r, 20, "0132"), 42, "ABCD"), 43, edition == 1 ? "02" : "GB");
+    r = with(r, 64, edition == 4 ? "A" : "8");
+    for (element = 66; element <= last_of(edition); element++)
+        if (element == 86)
+            r = with(r, element, edition == 4 ? "6" : "5");
+        else if (element >= 87 && element <= 93)
+            r = with(r, element, &"012"[3 - width(element)]);
+        else
+            r = with(r, element, edition == 4 ? "7" : "9");
+    return r;
+}
+
+/* A place by its columns 12 to 19, and the digit that comes home from an edition that counts the other way: octants or quadrants. */
+struct place {
+    const char *text;
+    char home;
+};
+
+static void there_and_back(void)
+{
+    /* A plain place, the equator, 0.0, 90.0 E and W, 180.0, the equator at one of these, and no place at all. */
+    static const struct place octants[] = {{"30650795", '3'}, {"61231234", '6'}, {"80000100", '3'}, {"60001000", '1'}, {"31000000", '0'},
+                                           {"81000000", '5'}, {"31000900", '2'}, {"11000900", '0'}, {"21001800", '1'}, {"71001800", '6'},
+                                           {"80000000", '0'}, {"80000900", '2'}, {"60001800", '1'}, {"        ", ' '}};
+    static const struct place quadrants[] = {{"30650795", '3'}, {"51231234", '5'}, {"30000100", '1'}, {"70001000", '5'}, {"71000000", '1'},
+                                             {"51000000", '3'}, {"11000900", '1'}, {"71000900", '7'}, {"71001800", '1'}, {"51001800", '3'},
+                                             {"50000000", '1'}, {"70000900", '5'}, {"30001800", '1'}, {"        ", ' '}};
+    /* What a rich record loses, by the edition that it is of and the one asked for. */
+    static const struct answer lost[3][3] = {
+        {{IMMT_OK, 0, 0, 0},                                                 /* 1 to 1 */
+         {IMMT_OK, 0, UINT64_C(0x40000000000), 0},                           /* 1 to 3: 43 */
+         {IMMT_OK, 0, UINT64_C(0x58000000000), 0}},                          /* 1 to 4: 40, 41, 43 */
+        {{IMMT_OK, 0, UINT64_C(0x40000000000), UINT64_C(0x1FFFE00000)},      /* 3 to 1: 43, 86..101 */
+         {IMMT_OK, 0, 0, 0},                                                 /* 3 to 3 */
+         {IMMT_OK, 0, UINT64_C(0x18000000000), 0}},                          /* 3 to 4: 40, 41 */
+        {{IMMT_OK, 0, UINT64_C(0x8000058000000000), UINT64_C(0x1FFFFFFFFE)}, /* 4 to 1: 40, 41, 43, 64, 66..101 */
+         {IMMT_OK, 0, UINT64_C(0x8000018000000000), UINT64_C(0x1FE03FFFFE)}, /* 4 to 3: 40, 41, 64, 66..86, 94..101 */
+         {IMMT_OK, 0, 0, 0}}};                                               /* 4 to 4 */
+    size_t from, to, i;
+    for (from = 0; from < 3; from++)
+        for (to = 0; to < 3; to++)
+            for (i = 0; i < sizeof octants / sizeof octants[0]; i++) {
+                struct place place = editions[from] == 1 ? octants[i] : quadrants[i];
+                char home = (editions[from] == 1) != (editions[to] == 1) ? place.home : place.text[0];
+                comes_home(with(blank(editions[from]), 6, place.text), editions[to], (struct answer){IMMT_OK, 0, 0, 0}, home);
+                comes_home(with(rich(editions[from]), 6, place.text), editions[to], lost[from][to], home);
+            }
+}
+
 int main(void)
 {
     columns();
@@ -324,6 +426,7 @@ int main(void)
     refusals_8_and_9();
     losses();
     worked_cases();
+    there_and_back();
     printf("tests %u failed %u\n", tried, failures);
     return failures == 0 ? 0 : 1;
 }

@@ -78,6 +78,9 @@ uint64_t immt_check(const uint8_t *record, size_t length, uint64_t *place);
  *
  * Returns IMMT_OK on success, else a number from 1 to 9. The edition is looked at only for a record that a check accepts, and the room
  * only for an edition that there is.
+ *
+ * A result that is recast back to the record's own edition loses nothing more: each element has its first characters, or is blank and was lost
+ * before. Column 12 may come back with another digit for the same place, on the equator or where the longitude says 0.0, 90.0 or 180.0.
  */
 uint64_t immt_recast(const uint8_t *record, size_t length, uint64_t edition, uint8_t *buffer, size_t room, uint64_t *place,
                      uint64_t *lost_low, uint64_t *lost_high);

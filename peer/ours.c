@@ -3,8 +3,9 @@
  *
  * Requests come on standard input and answers go to standard output, in the protocol that src/calls.rs describes, so that what this program
  * writes can be held byte for byte against what `peer calls` writes. It judges no record itself: it takes a line apart, lends the memory,
- * makes the call, or one for every date of a year, and prints what came back. Link it with libdesk.a (check and recast: the calls that a
- * host makes) and libtrial.a (the others), which `rt staticlib desk` and `rt staticlib trial` write.
+ * makes the call, or one for every date of a year or for every recast of a record that goes there and back, and prints what came back. Link it
+ * with libdesk.a (check and recast: the calls that a host makes) and libtrial.a (the others), which `rt staticlib desk` and `rt staticlib trial`
+ * write.
  *
  * One thing of the protocol does not come from a call: where the call sign stands. The proved call shows a part of the caller's own record,
  * which a function for C cannot return, so trial_show copies it. PLACE is 72 where the record has the copied bytes there, and 0 elsewhere.
@@ -32,6 +33,8 @@ enum { ELEMENTS = 101, PARTS = 4, NUMBERS = PARTS * ELEMENTS, MOST_ROOM = 4096, 
 enum { YEAR_COLUMN = 2, YEAR_WIDTH = 4, MONTH_COLUMN = 6, DAY_COLUMN = 8, VERSION_COLUMN = 111, CALENDAR_TIE = 10 };
 
 enum { MISSING, CODE, TEXT, AMOUNT, PLACE };
+
+enum { EDITIONS = 3, LEGS = 3 };
 
 enum { KINDS = 4 };
 
@@ -354,15 +357,25 @@ static void put_answer(struct bytes *output, const struct answer *answer)
         put_text(output, " !");
 }
 
-/* The lent buffer and its guard, as no record fills them; the part after ROOM belongs to nobody. */
 static uint8_t memory[MOST_ROOM + GUARD];
 
-static void lend(struct answer *answer, uint64_t room)
+/* Fills the lent buffer and its guard as no record does; the part after ROOM belongs to nobody. */
+static void lend(struct answer *answer, uint8_t *buffer, size_t room)
 {
-    answer->buffer = memory;
-    answer->length = (size_t)room + GUARD;
+    answer->buffer = buffer;
+    answer->length = room + GUARD;
     for (size_t i = 0; i < answer->length; i++)
-        memory[i] = (uint8_t)(128 + i % 128);
+        buffer[i] = (uint8_t)(128 + i % 128);
+}
+
+/* The numbers that a recast must set are set to others before. */
+static void recast(struct answer *answer, struct part record, uint64_t edition, uint8_t *buffer, size_t room)
+{
+    memset(answer, 0, sizeof *answer);
+    lend(answer, buffer, room);
+    answer->place = answer->low = answer->high = UINT64_MAX;
+    answer->number = immt_recast(record.at, (size_t)(record.end - record.at), edition, buffer, room, &answer->place, &answer->low,
+                                 &answer->high);
 }
 
 static void show(struct answer *answer, const struct bytes *record)
@@ -472,19 +485,63 @@ static int call(struct part request, struct answer *answer)
     } else if (is(name, "t")) {
         if (!next_number(&fields, &number) || !next_room(&fields, &room) || !last_record(&fields, &record))
             return 0;
-        lend(answer, room);
-        answer->place = answer->low = answer->high = unset;
-        answer->number =
-            immt_recast(record.at, record.length, number, memory, (size_t)room, &answer->place, &answer->low, &answer->high);
+        recast(answer, (struct part){record.at, record.at + record.length}, number, memory, (size_t)room);
     } else if (is(name, "w")) {
         if (!next_number(&fields, &number) || !next_room(&fields, &room) || !last_readings(&fields, &readings))
             return 0;
-        lend(answer, room);
+        lend(answer, memory, (size_t)room);
         answer->place = unset;
         answer->number = trial_write(readings.numbers, NUMBERS, readings.amounts, ELEMENTS, number, memory, (size_t)room,
                                      &answer->place);
     } else {
         return 0;
+    }
+    return 1;
+}
+
+static size_t length_of(uint64_t edition)
+{
+    return edition == 1 ? IMMT_LENGTH_1 : edition == 3 ? IMMT_LENGTH_3 : IMMT_LENGTH_4;
+}
+
+/*
+ * Recasts the record of a request to each edition, from there to its own and to that edition again, and puts every answer; false where it
+ * asks for none. What a recast left is the record of the next, which writes to memory of its own.
+ */
+static int there_and_back(struct part request, struct bytes *output)
+{
+    static const uint64_t editions[EDITIONS] = {1, 3, 4};
+    static struct bytes record;
+    static uint8_t lent[LEGS][IMMT_LENGTH_MOST + GUARD];
+    struct fields fields = {request, 1};
+    struct part name;
+    struct answer answer;
+    const char *before = "";
+    next(&fields, &name);
+    if (!is(name, "b") || !last_record(&fields, &record))
+        return 0;
+    memset(&answer, 0, sizeof answer);
+    answer.place = UINT64_MAX;
+    answer.number = immt_check(record.at, record.length, &answer.place);
+    if (answer.number != IMMT_OK) {
+        put_answer(output, &answer);
+        return 1;
+    }
+    if (record.length < VERSION_COLUMN)
+        fail("a record without its column 111 is accepted");
+    uint64_t own = (uint64_t)(record.at[VERSION_COLUMN - 1] - '0');
+    for (size_t i = 0; i < EDITIONS; i++) {
+        const uint64_t asked[LEGS] = {editions[i], own, editions[i]};
+        struct part left = {record.at, record.at + record.length};
+        for (size_t leg = 0; leg < LEGS; leg++) {
+            recast(&answer, left, asked[leg], lent[leg], IMMT_LENGTH_MOST);
+            put_text(output, before);
+            put_answer(output, &answer);
+            before = " ";
+            if (answer.number != IMMT_OK)
+                break;
+            left = (struct part){lent[leg], lent[leg] + length_of(asked[leg])};
+        }
     }
     return 1;
 }
@@ -508,7 +565,7 @@ static int calendar(struct part request, struct bytes *output)
         return 0;
     if (edition != 1 && edition != 3 && edition != 4)
         return 0;
-    size_t length = edition == 1 ? IMMT_LENGTH_1 : edition == 3 ? IMMT_LENGTH_3 : IMMT_LENGTH_4;
+    size_t length = length_of(edition);
     memset(record, ' ', length);
     record[0] = '3';
     record[VERSION_COLUMN - 1] = (uint8_t)('0' + edition);
@@ -543,7 +600,7 @@ static void respond(struct bytes *output, struct part request)
     struct answer answer;
     if (call(request, &answer))
         put_answer(output, &answer);
-    else if (!calendar(request, output))
+    else if (!there_and_back(request, output) && !calendar(request, output))
         put_text(output, "?");
     put_text(output, "\n");
     if (output->length >= PIECE)

@@ -9,6 +9,7 @@
 //! | `r RECORD` | check and read |
 //! | `s RECORD` | show the call sign |
 //! | `t EDITION ROOM RECORD` | recast to an edition into a lent buffer of so many bytes |
+//! | `b RECORD` | recast there, back and there again, for each edition |
 //! | `w EDITION ROOM READINGS` | write from 101 readings into a lent buffer of so many bytes |
 //! | `d EDITION YEAR` | check, for every day of every month of a year |
 //!
@@ -23,19 +24,26 @@
 //! | Request | Answer |
 //! |---|---|
 //! | `c`, `s`, `t`, `w` | `NUMBER PLACE LOW HIGH BUFFER` |
+//! | `b` | that of `c` for a refused record, else that of `t` for each recast |
 //! | `r` | `NUMBER PLACE LOW HIGH BUFFER EDITION READINGS` |
 //! | `d` | `DAYS` thirteen times, for the blank month and each month from 01 |
 //! | anything else | `?` |
 //!
 //! NUMBER and PLACE are decimal, LOW and HIGH the two words of the loss set as 16 hexadecimal digits each. BUFFER is `-`
-//! but for three calls. For `t` and `w` it is the memory after the call in hexadecimal: the lent ROOM bytes and 16 guard
-//! bytes beyond them, byte I (from 0) of both having been 128 + I mod 128 before the call. For `s` it is the bytes shown
-//! (`-` where none), and PLACE is then the column where they begin in the caller's own record (0 where none); NUMBER, LOW
-//! and HIGH are 0.
+//! but for `t`, `w` and `s`. For `t` and `w` it is the memory after the call in hexadecimal: the lent ROOM bytes and 16
+//! guard bytes beyond them, byte I (from 0) of both having been 128 + I mod 128 before the call. For `s` it is the bytes
+//! shown (`-` where none), and PLACE is then the column where they begin in the caller's own record (0 where none);
+//! NUMBER, LOW and HIGH are 0.
 //!
 //! For `r` EDITION is the number of the record's edition, 0 where the record is refused. READINGS are the fields that a
 //! `w` takes, the elements rising, so that what a read answers can be handed to a write. Both stand there whatever NUMBER
 //! is: a refused record has no readings, and one that was left shows.
+//!
+//! For `b` an accepted record goes on three trips, to editions 1, 3 and 4 in this order, and a trip is three recasts: the
+//! record to that edition, what the first recast left to the record's own edition, and what the second left to that
+//! edition again. Each is a `t` with a ROOM of 159 and memory of its own; what a recast left is the front of its memory,
+//! as long as a record of the edition it was asked for. Where a recast answers another NUMBER than 0, its answer is the
+//! last of the trip.
 //!
 //! For `d` DAYS are 32 characters, one for the blank day and each day from 01. The record that is checked is one of the
 //! edition with 3 in column 1, the year, that month and that day, blank elsewhere. The character is `.` where it is
@@ -43,12 +51,12 @@
 
 use std::io::{self, BufRead, Write};
 
-use crate::layout::{span, Edition, ELEMENTS};
+use crate::layout::{span, Edition, ELEMENTS, LONGEST};
 use crate::reading::{Kind, Place, Reading};
 use crate::report::{put_number, put_signed};
 use crate::{Answer, Readings};
 
-const GUARD: usize = 16;
+pub const GUARD: usize = 16;
 const MOST_ROOM: usize = 4096;
 
 /// One trial call.
@@ -58,6 +66,7 @@ pub enum Call {
     Read(Vec<u8>),
     Show(Vec<u8>),
     Recast(u64, usize, Vec<u8>),
+    ThereAndBack(Vec<u8>),
     Write(u64, usize, Box<[Reading; ELEMENTS]>),
     /// The year as its columns hold it.
     Calendar(Edition, [u8; 4]),
@@ -78,7 +87,8 @@ fn put_word(output: &mut Vec<u8>, word: u64) {
     put_bytes(output, &word.to_be_bytes());
 }
 
-fn bytes_of(field: &str) -> Option<Vec<u8>> {
+/// The bytes of a field in hexadecimal; nothing where it is none.
+pub(crate) fn bytes_of(field: &str) -> Option<Vec<u8>> {
     if field == "-" {
         return Some(Vec::new());
     }
@@ -171,6 +181,7 @@ impl Call {
             "r" => Call::Read(bytes_of(fields.next()?)?),
             "s" => Call::Show(bytes_of(fields.next()?)?),
             "t" => Call::Recast(number_of(fields.next()?)?, room_of(fields.next()?)?, bytes_of(fields.next()?)?),
+            "b" => Call::ThereAndBack(bytes_of(fields.next()?)?),
             "w" => {
                 let edition = number_of(fields.next()?)?;
                 let room = room_of(fields.next()?)?;
@@ -207,6 +218,10 @@ impl Call {
             }
             Call::Recast(edition, room, record) => {
                 numbers(output, b't', &[*edition, *room as u64]);
+                put_bytes(output, record);
+            }
+            Call::ThereAndBack(record) => {
+                numbers(output, b'b', &[]);
                 put_bytes(output, record);
             }
             Call::Write(edition, room, readings) => {
@@ -250,6 +265,7 @@ impl Call {
                 let answer = crate::recast(record, *edition, &mut memory[..*room]);
                 put_answer(output, answer, &memory);
             }
+            Call::ThereAndBack(record) => put_trips(output, record),
             Call::Write(edition, room, readings) => {
                 let mut memory = memory(*room);
                 let answer = crate::write(*edition, readings, &mut memory[..*room]);
@@ -262,7 +278,7 @@ impl Call {
 }
 
 /// A lent buffer with its guard, filled with bytes that no record holds and that tell their position.
-fn memory(room: usize) -> Vec<u8> {
+pub(crate) fn memory(room: usize) -> Vec<u8> {
     (0..room + GUARD).map(|index| 128 + (index % 128) as u8).collect()
 }
 
@@ -276,6 +292,33 @@ fn put_answer(output: &mut Vec<u8>, answer: Answer, buffer: &[u8]) {
     put_word(output, answer.lost[1]);
     output.push(b' ');
     put_bytes(output, buffer);
+}
+
+/// Recasts a record there, back and there again, for each edition, and puts the answer of each recast; the refusal alone
+/// where the record is refused.
+fn put_trips(output: &mut Vec<u8>, record: &[u8]) {
+    let refusal = crate::check(record);
+    if refusal.number != 0 {
+        return put_answer(output, refusal, &[]);
+    }
+    let own = Edition::from_digit(record[110]).expect("an accepted record names its edition");
+    let start = output.len();
+    for edition in Edition::ALL {
+        let mut left = record.to_vec();
+        for to in [edition, own, edition] {
+            let mut memory = memory(LONGEST);
+            let answer = crate::recast(&left, to.number(), &mut memory[..LONGEST]);
+            if output.len() > start {
+                output.push(b' ');
+            }
+            put_answer(output, answer, &memory);
+            if answer.number != 0 {
+                break;
+            }
+            memory.truncate(to.length());
+            left = memory;
+        }
+    }
 }
 
 /// Puts the fields of the readings that are not missing, or `-` where all are.

@@ -8,6 +8,7 @@ pub mod quick;
 pub mod reading;
 pub mod recasting;
 pub mod report;
+pub mod returns;
 pub mod trial;
 pub mod writing;
 

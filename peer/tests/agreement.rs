@@ -5,6 +5,7 @@ use peer::layout::{span, Edition, LONGEST};
 use peer::plain::{self, TIES};
 use peer::reading::reading as plain_reading;
 use peer::recasting::plain_recast;
+use peer::returns::{hold_answer, Findings, EDGES};
 use peer::trial::{self, Chance, Family, Limits};
 use peer::{check, quick, read, recast, write, Answer, Place, Reading};
 
@@ -303,6 +304,88 @@ fn places_agree_on_every_longitude() {
     }
 }
 
+/// Recasts a record to an edition, home and to that edition again: each answer, and what it left in the lent buffer.
+fn trip(recast: fn(&[u8], u64, &mut [u8]) -> Answer, record: &[u8], edition: Edition) -> Vec<(Answer, Vec<u8>)> {
+    let own = Edition::from_digit(record[110]).unwrap();
+    let mut trip: Vec<(Answer, Vec<u8>)> = Vec::new();
+    for to in [edition, own, edition] {
+        let mut buffer = vec![200; LONGEST + 1];
+        let left = trip.last().map_or(record, |(_, left)| left);
+        let answer = recast(left, to.number(), &mut buffer);
+        assert!(answer.number == 0 && buffer[to.length()..].iter().all(|&byte| byte == 200));
+        buffer.truncate(to.length());
+        trip.push((answer, buffer));
+    }
+    trip
+}
+
+/// Holds the two recasts to each other on all trips of an accepted record, and what the protocol answers to the judge.
+fn trips_agree_on(record: &[u8], findings: &mut Findings) {
+    for edition in Edition::ALL {
+        assert_eq!(trip(recast, record, edition), trip(plain_recast, record, edition));
+    }
+    let (mut request, mut answer) = (Vec::new(), Vec::new());
+    Call::ThereAndBack(record.to_vec()).put_line(&mut request);
+    Call::ThereAndBack(record.to_vec()).put_answer(&mut answer);
+    let [request, answer] = [request, answer].map(|line| String::from_utf8(line).unwrap());
+    assert_eq!(hold_answer(request.trim_end(), answer.trim_end(), findings), Ok(()), "{request}");
+}
+
+#[test]
+fn trips_agree() {
+    let limits = Limits::new();
+    let mut chance = Chance::new(16);
+    let mut findings = Findings::default();
+    let (mut whole, mut lost) = (0, 0);
+    for _ in 0..20_000 {
+        let family = if chance.one_in(3) { Family::Mixed } else { Family::Typical };
+        let record = trial::record(&mut chance, &limits, family);
+        if check(&record).number != 0 {
+            continue;
+        }
+        trips_agree_on(&record, &mut findings);
+        for edition in Edition::ALL {
+            let trip = trip(recast, &record, edition);
+            whole += usize::from(trip[1].1 == record);
+            lost += usize::from(trip[0].0.lost != [0, 0]);
+        }
+    }
+    // Trips of every sort come often.
+    assert!(findings.trips > 40_000 && whole > 10_000 && lost > 10_000, "{findings:?} {whole} {lost}");
+    assert!(findings.other_digits.iter().all(|&count| count > 5), "{findings:?}");
+}
+
+/// How often each edge gives another digit is counted here by hand. Of the 1798 longitudes off the edges every one has two
+/// octants in the south, each on two trips, and in editions 3 and 4 the quadrants 3 and 7, each on one. At 0.0, 90.0 and
+/// 180.0, at either latitude, it is two octants (at 90.0 four) on two trips and, but for 90.0, two quadrants of two
+/// editions on one. Where they meet the equator all digits of one place but the lowest are others.
+#[test]
+fn trips_agree_on_every_longitude() {
+    let mut findings = Findings::default();
+    for (from, digits) in [(Edition::One, &b"01235678"[..]), (Edition::Three, b"1357"), (Edition::Four, b"1357")] {
+        let mut record = vec![b' '; from.length()];
+        record[0] = b'3';
+        record[110] = from.digit();
+        for &digit in digits {
+            for latitude in [0, 1, 900] {
+                for longitude in 0..=1800 {
+                    record[11..19].copy_from_slice(format!("{}{latitude:03}{longitude:04}", digit as char).as_bytes());
+                    if check(&record).number == 0 {
+                        trips_agree_on(&record, &mut findings);
+                    }
+                }
+            }
+        }
+    }
+    assert_eq!(EDGES, ["equator", "0.0", "90.0", "180.0", "both"]);
+    let equator = 1798 * (2 * 2 + 2 * 2);
+    let zero = 2 * (2 * 2 + 2 * 2);
+    let ninety = 2 * 4 * 2;
+    // At 0.0 and at 180.0 three octants and three quadrants, at 90.0 three octants and one quadrant in the east and in the west.
+    let both = 2 * (3 * 2 + 3 * 2) + 2 * (3 * 2 + 2);
+    assert_eq!(findings.other_digits, [equator, zero, ninety, zero, both]);
+}
+
 /// A read answers what the check does, and an accepted record is written from its own readings.
 #[test]
 fn reads_agree_on_every_family() {
@@ -366,7 +449,8 @@ fn requests_are_read_as_they_were_asked() {
     let mut chance = Chance::new(12);
     let calendars = [(Edition::One, *b"0000"), (Edition::Three, *b"    "), (Edition::Four, *b"9999")];
     let calendars = calendars.into_iter().map(|(edition, year)| Call::Calendar(edition, year));
-    for call in (0..5_000).map(|_| trial::call(&mut chance, &limits, Family::Mixed)).chain(calendars) {
+    let trips = [vec![], b"3".to_vec(), trial::typical(&mut chance, &limits, Edition::Four, 4)].map(Call::ThereAndBack);
+    for call in (0..5_000).map(|_| trial::call(&mut chance, &limits, Family::Mixed)).chain(calendars).chain(trips) {
         let mut line = Vec::new();
         call.put_line(&mut line);
         let line = String::from_utf8(line).unwrap();
@@ -381,6 +465,9 @@ fn requests_are_read_as_they_were_asked() {
     for wrong in ["r", "r ", "r 3", "r 3g", "r 16 33", "r 33 33", "r  33", "r 33 ", "r - -"] {
         assert_eq!(Call::of_line(wrong), None, "{wrong}");
     }
+    for wrong in ["b", "b ", "b 3", "b 3g", "b 4 33", "b 33 33", "b  33", "b 33 ", "b - -"] {
+        assert_eq!(Call::of_line(wrong), None, "{wrong}");
+    }
     for wrong in
         ["d", "d 4", "d 4 ", "d 2 2000", "d 4 20000", "d 4 200", "d 4 200A", "d 4 +200", "d 4 2000 ", "d 4 - -"]
     {
@@ -388,16 +475,18 @@ fn requests_are_read_as_they_were_asked() {
     }
 }
 
+/// The answer to the line of a request.
+fn answer_of(request: &str) -> String {
+    let mut answer = Vec::new();
+    Call::of_line(request).unwrap().put_answer(&mut answer);
+    String::from_utf8(answer).unwrap().strip_suffix('\n').unwrap().to_string()
+}
+
 /// What a read answers is handed to a write as it stands, and gives the record's own bytes.
 #[test]
 fn the_answer_of_a_read_is_the_request_of_a_write() {
     let limits = Limits::new();
     let mut chance = Chance::new(15);
-    let answer_of = |request: &str| {
-        let mut answer = Vec::new();
-        Call::of_line(request).unwrap().put_answer(&mut answer);
-        String::from_utf8(answer).unwrap().strip_suffix('\n').unwrap().to_string()
-    };
     for _ in 0..5_000 {
         let record = trial::record(&mut chance, &limits, Family::Mixed);
         let mut request = Vec::new();
@@ -418,6 +507,36 @@ fn the_answer_of_a_read_is_the_request_of_a_write() {
         assert!(written.starts_with(&format!("0 0 {:016x} {:016x} {bytes}", 0, 0)), "{written}");
     }
     assert_eq!(answer_of("r -"), format!("1 0 {:016x} {:016x} - 0 -", 0, 0));
+}
+
+/// A request to go there and back is answered as a check where the record is refused, else as the nine recasts would be,
+/// each of what the one before it left.
+#[test]
+fn the_answer_of_a_trip_is_that_of_its_recasts() {
+    let limits = Limits::new();
+    let mut chance = Chance::new(17);
+    let mut accepted = 0;
+    for _ in 0..5_000 {
+        let record = trial::record(&mut chance, &limits, Family::Mixed);
+        let digits: String = record.iter().map(|byte| format!("{byte:02x}")).collect();
+        let digits = if digits.is_empty() { "-".to_string() } else { digits };
+        let mut expected = vec![answer_of(&format!("c {digits}"))];
+        if check(&record).number == 0 {
+            expected.clear();
+            accepted += 1;
+            for edition in [1, 3, 4] {
+                let mut left = digits.clone();
+                for to in [edition, u64::from(record[110] - b'0'), edition] {
+                    let answer = answer_of(&format!("t {to} 159 {left}"));
+                    let buffer = answer.rsplit(' ').next().unwrap();
+                    left = buffer[..if to == 1 { 262 } else { 318 }].to_string();
+                    expected.push(answer);
+                }
+            }
+        }
+        assert_eq!(answer_of(&format!("b {digits}")), expected.join(" "));
+    }
+    assert!((500..4_500).contains(&accepted), "{accepted}");
 }
 
 #[test]

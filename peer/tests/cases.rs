@@ -6,17 +6,8 @@ use peer::plain::number;
 use peer::report::{readings_report, recast_report};
 use peer::{check, read, recast, show_call_sign, write, Answer, Edition, Kind, Place, Reading, ELEMENTS};
 
-/// A record of an edition with 3 in column 1, blank but for the texts at the columns.
-fn record(edition: u64, texts: &[(usize, &str)]) -> Vec<u8> {
-    let edition = Edition::from_number(edition).unwrap();
-    let mut record = vec![b' '; edition.length()];
-    record[0] = b'3';
-    record[110] = edition.digit();
-    for (column, text) in texts {
-        record[column - 1..column - 1 + text.len()].copy_from_slice(text.as_bytes());
-    }
-    record
-}
+mod records;
+use records::record;
 
 fn refusal(record: &[u8]) -> (u64, u64) {
     let answer = check(record);
@@ -382,6 +373,85 @@ fn writes() {
     assert_eq!(written(4, &place(6500, 18001, 7)), (6, 6));
     assert_eq!(written(4, &place(1, 0, 1)), (6, 6));
     assert_eq!(written(4, &place(0, 1, 7)), (6, 6));
+}
+
+/// Recasts a record to an edition, home and to that edition again: what came home, and what the first recast lost.
+fn there_and_back(record: &[u8], edition: u64) -> (Vec<u8>, Vec<u64>) {
+    let (there, lost) = recast_to(record, edition);
+    let (home, lost_on_the_way_back) = recast_to(&there, u64::from(record[110] - b'0'));
+    assert_eq!(lost_on_the_way_back, vec![]);
+    assert_eq!(recast_to(&home, edition), (there, vec![]));
+    (home, lost)
+}
+
+/// the places that come home with another digit, by edition and the edition between, as they go and as they return.
+const OTHER_DIGITS: [(u64, u64, &str, &str); 19] = [
+    // The equator, east and west of Greenwich and on either side of 90 degrees.
+    (3, 1, "30000100", "10000100"),
+    (4, 1, "70001700", "50001700"),
+    (1, 3, "80000100", "30000100"),
+    (1, 4, "50000100", "00000100"),
+    (1, 4, "70000901", "20000901"),
+    (1, 3, "60000901", "10000901"),
+    // 0.0, 90.0 and 180.0, in the north and in the south.
+    (3, 1, "71000000", "11000000"),
+    (4, 1, "51000000", "31000000"),
+    (1, 4, "31000000", "01000000"),
+    (1, 3, "81000000", "51000000"),
+    (1, 4, "31000900", "21000900"),
+    // 90.0 W counts too.
+    (1, 4, "11000900", "01000900"),
+    (1, 3, "89000900", "79000900"),
+    (3, 1, "71001800", "11001800"),
+    (4, 1, "51001800", "31001800"),
+    (1, 3, "21001800", "11001800"),
+    (1, 4, "71001800", "61001800"),
+    // On the equator at one of them.
+    (4, 1, "50001800", "10001800"),
+    (1, 3, "80000900", "20000900"),
+];
+
+#[test]
+fn another_digit_comes_home() {
+    for (from, to, before, after) in OTHER_DIGITS {
+        let (home, lost) = there_and_back(&record(from, &[(12, before)]), to);
+        assert_eq!((home, lost), (record(from, &[(12, after)]), vec![]), "{before} of {from} to {to}");
+        // What came home stays: the same digit from then on, and to its own edition any.
+        assert_eq!(there_and_back(&record(from, &[(12, after)]), to).0, record(from, &[(12, after)]));
+        assert_eq!(there_and_back(&record(from, &[(12, before)]), from).0, record(from, &[(12, before)]));
+        if from != 1 {
+            assert_eq!(there_and_back(&record(from, &[(12, before)]), 7 - from).0, record(from, &[(12, before)]));
+        }
+    }
+}
+
+#[test]
+fn a_plain_place_comes_home_unchanged() {
+    // Away from the edges, and in quadrants at 90.0, where no other has the same place.
+    let octants = ["30650795", "00010001", "19000901", "21231799", "50010899", "60651000", "71231234", "89000001"];
+    let quadrants = ["10650795", "39000001", "50011799", "71230899", "11000900", "31000900", "51000900", "71000900"];
+    for (from, places) in [(1, octants), (3, quadrants), (4, quadrants)] {
+        for place in places.iter().chain(&["        "]) {
+            for to in [1, 3, 4] {
+                let record = record(from, &[(2, "20030614"), (12, place), (22, "97"), (72, "ABCD")]);
+                assert_eq!(there_and_back(&record, to), (record, vec![]), "{place} to {to}");
+            }
+        }
+    }
+}
+
+#[test]
+fn what_was_lost_comes_home_blank() {
+    let country = record(4, &[(12, "10650795"), (79, "GB"), (81, "x")]);
+    assert_eq!(there_and_back(&country, 1), (record(4, &[(12, "10650795"), (81, "x")]), vec![43]));
+    assert_eq!(there_and_back(&country, 3), (country, vec![]));
+    let logbook = record(1, &[(70, "1"), (71, "4"), (79, "02"), (112, "5")]);
+    assert_eq!(there_and_back(&logbook, 3), (record(1, &[(70, "1"), (71, "4"), (112, "5")]), vec![43]));
+    assert_eq!(there_and_back(&logbook, 4), (record(1, &[(112, "5")]), vec![40, 41, 43]));
+    let flags = record(4, &[(110, "A"), (112, "60"), (132, "6"), (133, "360"), (159, "7")]);
+    assert_eq!(there_and_back(&flags, 3), (record(4, &[(113, "0"), (133, "360")]), vec![64, 66, 86, 101]));
+    assert_eq!(there_and_back(&flags, 1), (record(4, &[(113, "0")]), vec![64, 66, 86, 87, 101]));
+    assert_eq!(there_and_back(&flags, 4), (flags, vec![]));
 }
 
 #[test]

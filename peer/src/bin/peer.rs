@@ -3,44 +3,63 @@
 //!     peer report < input                  the recast report
 //!     peer readings < input                what every element of every record reads as
 //!     peer calls < requests                trial calls answered in bulk (the protocol stands in src/calls.rs)
+//!     peer judge REQUESTS < answers        whether every answer to the file of `b` requests keeps the sentences about a record
+//!                                          that goes there and back (they stand in src/returns.rs)
 //!     peer generate SEED COUNT KIND [FORM] trial inputs; KIND is random, typical, damaged, boundary, ties, lengths, bytes or
-//!                                          mixed; FORM is calls (if none is given), records, report1, report3 or report4
+//!                                          mixed; FORM is calls (if none is given), records, report1, report3, report4, or
+//!                                          back for `b` requests of the records that records and the reports have
 //!     peer bench                           nanoseconds a record, the best of many runs
+//!
+//! Exit status: 0, 1 where an answer is judged broken or a file cannot be read or written, 2 for wrong usage.
 
+use std::fs::File;
 use std::hint::black_box;
-use std::io::{self, BufReader, Write};
+use std::io::{self, BufRead, BufReader, Read, Write};
 use std::process::ExitCode;
 use std::time::Instant;
 
+use peer::calls::Call;
 use peer::layout::Edition;
 use peer::trial::{self, Chance, Family, Limits};
 
-fn generate(arguments: &[String], sink: &mut impl Write) -> io::Result<bool> {
+/// What a sub-command exits with.
+const DONE: u8 = 0;
+const BROKEN: u8 = 1;
+const WRONG_USAGE: u8 = 2;
+
+/// An input that is long, read in few pieces.
+fn in_pieces(input: impl Read) -> impl BufRead {
+    BufReader::with_capacity(1 << 18, input)
+}
+
+fn generate(arguments: &[String], sink: &mut impl Write) -> io::Result<u8> {
     let [seed, count, family, form @ ..] = arguments else {
-        return Ok(false);
+        return Ok(WRONG_USAGE);
     };
     let (Ok(seed), Ok(count), Some(family)) = (seed.parse(), count.parse::<u64>(), Family::of_name(family)) else {
-        return Ok(false);
+        return Ok(WRONG_USAGE);
     };
     let form = form.first().map_or("calls", String::as_str);
     let first: &[u8] = match form {
-        "calls" | "records" => b"",
+        "calls" | "records" | "back" => b"",
         "report1" => b"1\n",
         "report3" => b"3\n",
         "report4" => b"4\n",
-        _ => return Ok(false),
+        _ => return Ok(WRONG_USAGE),
     };
     let mut chance = Chance::new(seed);
     let limits = Limits::new();
     let mut output = first.to_vec();
     for index in 0..count {
-        if form == "calls" {
-            trial::call(&mut chance, &limits, family).put_line(&mut output);
-        } else {
-            output.extend_from_slice(&trial::record(&mut chance, &limits, family));
-            // The last line end is left out by half of the seeds.
-            if index + 1 < count || seed % 2 == 0 {
-                output.push(b'\n');
+        match form {
+            "calls" => trial::call(&mut chance, &limits, family).put_line(&mut output),
+            "back" => Call::ThereAndBack(trial::record(&mut chance, &limits, family)).put_line(&mut output),
+            _ => {
+                output.extend_from_slice(&trial::record(&mut chance, &limits, family));
+                // The last line end is left out by half of the seeds.
+                if index + 1 < count || seed % 2 == 0 {
+                    output.push(b'\n');
+                }
             }
         }
         if output.len() >= 1 << 16 {
@@ -50,7 +69,16 @@ fn generate(arguments: &[String], sink: &mut impl Write) -> io::Result<bool> {
     }
     sink.write_all(&output)?;
     sink.flush()?;
-    Ok(true)
+    Ok(DONE)
+}
+
+fn judge(arguments: &[String], answers: impl Read, sink: &mut impl Write) -> io::Result<u8> {
+    let [requests] = arguments else {
+        return Ok(WRONG_USAGE);
+    };
+    let requests = File::open(requests)?;
+    let kept = peer::returns::judge(&mut in_pieces(requests), &mut in_pieces(answers), sink)?;
+    Ok(if kept { DONE } else { BROKEN })
 }
 
 /// The best of many runs over the records, in nanoseconds for one of them.
@@ -145,22 +173,24 @@ fn main() -> ExitCode {
     let mut input = io::stdin().lock();
     let mut output = io::stdout().lock();
     let outcome = match arguments.first().map(String::as_str) {
-        Some("report") => peer::report::recast_report(&mut input, &mut output).map(|()| true),
-        Some("readings") => peer::report::readings_report(&mut input, &mut output).map(|()| true),
-        Some("calls") => peer::calls::serve(&mut BufReader::with_capacity(1 << 18, input), &mut output).map(|()| true),
+        Some("report") => peer::report::recast_report(&mut input, &mut output).map(|()| DONE),
+        Some("readings") => peer::report::readings_report(&mut input, &mut output).map(|()| DONE),
+        Some("calls") => peer::calls::serve(&mut in_pieces(input), &mut output).map(|()| DONE),
+        Some("judge") => judge(&arguments[1..], input, &mut output),
         Some("generate") => generate(&arguments[1..], &mut output),
         Some("bench") => {
             drop(output);
             bench();
-            Ok(true)
+            Ok(DONE)
         }
-        _ => Ok(false),
+        _ => Ok(WRONG_USAGE),
     };
     match outcome {
-        Ok(true) => ExitCode::SUCCESS,
-        Ok(false) => {
-            eprintln!("peer report | readings | calls | generate SEED COUNT KIND [FORM] | bench");
-            ExitCode::from(2)
+        Ok(status) => {
+            if status == WRONG_USAGE {
+                eprintln!("peer report | readings | calls | judge REQUESTS | generate SEED COUNT KIND [FORM] | bench");
+            }
+            ExitCode::from(status)
         }
         Err(error) => {
             eprintln!("peer: {error}");

@@ -73,6 +73,16 @@ module _ (from to : Edition) (d latitude longitude c : ℕ) (x : Bool) (e : x �
 pub crossing : (from to : Edition) (x y z : Bool) → x ≡ isFirst from → y ≡ isFirst to → z ≡ Bool·beq x y → not z ≡ crosses from to
 crossing from to x y z e f g = rw (g, e, f)
 
+-- what crosses one way crosses back
+pub crosses-back : (from to : Edition) → crosses to from ≡ crosses from to
+crosses-back from to = by (isFirst from) (isFirst to)
+  where
+    by : (x y : Bool) → not (Bool·beq y x) ≡ not (Bool·beq x y)
+    by true true = refl
+    by true false = refl
+    by false true = refl
+    by false false = refl
+
 -- what holds of each two editions between which column 12 stays
 pub not-crossed : (P : Edition → Edition → Type 0) → P One One → P Three Three → P Three Four → P Four Three → P Four Four → (from to : Edition) → crosses from to ≡ false → P from to
 not-crossed P a b c d e One One h = a

@@ -27,7 +27,7 @@ use Rattle.checking.proofs.Demand2Acceptance.{accepted-exactly}
 use Rattle.meanings.specs.Kept.{lostText, lostAt}
 use Rattle.blanking.specs.LostBytes.{blankedText}
 use Rattle.recasting.specs.Recast.{hemisphere, digitOf, blanks, widened, recastText, recastRecord}
-use Rattle.recasting.proofs.WidenLaws.{blanks-long, widened-long, same-lost, all-legal}
+use Rattle.recasting.proofs.WidenLaws.{blanks-long, widened-long, same-lost, widened-legal}
 
 -- a text of element e in columns as many as edition 4's
 pub wide-text : (xs : List ℕ) → length xs ≡ 159 → (e : ℕ) → length (textOf e xs) ≡ widthOf e
@@ -96,7 +96,7 @@ module _ (from to : Edition) (xs : List ℕ) (ok : checked xs ≡ Accepted from)
     row-text e l = ap (λ (t : List ℕ). take (widthOf e) (drop (startOf e) t)) is ∙ part-of-front (startOf e) (widthOf e) (lengthOf to) (widened xs) (ends to e l) (omega (arith, own-long, most to))
 
     pub prepared : (length row ≡ lengthOf to) × ((e : ℕ) → 1 ≤ e → e ≤ lastOf to → legalText from e (textOf e row) ≡ true)
-    prepared = (row-long, λ e h l. ap (legalText from e) (row-text e l) ∙ all-legal from xs acceptable e h (omega (arith, last-below to)))
+    prepared = (row-long, λ e h l. ap (legalText from e) (row-text e l) ∙ widened-legal from xs acceptable e h (omega (arith, last-below to)))
 
     module _ (after : List ℕ) (same-long : length after ≡ length row) (blanked : (e : ℕ) → 1 ≤ e → e ≤ lastOf to → textOf e after ≡ blankedText from to row e) where
       pub after-long : length after ≡ lengthOf to

@@ -2,7 +2,7 @@
 -- blank; column 12 is the lowest digit that its edition has for the place. Assumes nothing.
 use mathlib.Core.Path.{_≡_, refl, sym, ap, _∙_}
 use mathlib.Core.Logic.{_⊎_, inl, inr, ⊎-elim}
-use mathlib.Core.Bool.{Bool, true, false, not, Bool·beq, true≢false}
+use mathlib.Core.Bool.{Bool, true, false, true≢false}
 use mathlib.Core.List.{List, [], _∷_}
 use Prim.Native.Nat.{ℕ, _+_, _-_, _*_, _≤_}
 use native.Mathlib.Omega.{arith}
@@ -19,8 +19,8 @@ use Rattle.layout.proofs.Beyond.{last-above, text-none}
 use Rattle.layout.proofs.Elements.{last-below}
 use Rattle.layout.proofs.Holding.{Holds, empty, holds, in-digits}
 use Rattle.layout.proofs.RecordLaws.{begins, text-long, same-record}
-use Rattle.places.specs.Digits.{keepsTie, mayStand, lowestDigit, isFirst, crosses}
-use Rattle.places.proofs.DigitLaws.{stands, column-texts, digit-stands}
+use Rattle.places.specs.Digits.{keepsTie, mayStand, lowestDigit, crosses}
+use Rattle.places.proofs.DigitLaws.{stands, column-texts, digit-stands, crosses-back}
 use Rattle.places.proofs.Demand3Digits.{digit-found}
 use Rattle.places.proofs.Request13Digits.{same-lowest}
 use Rattle.ties.specs.Ties.{octantTie, tie}
@@ -38,16 +38,6 @@ use Rattle.recasting.proofs.Demand3Accepted.{version-text, acceptable}
 use Rattle.recasting.proofs.Demand3Meaning.{not-there, text-kept, blank-stays, kept-or-blank, lost-exactly}
 use Rattle.recasting.proofs.Demand3Losses.{version-was}
 use Rattle.recasting.proofs.FitLaws.{two-blanks}
-
--- editions cross both ways
-crosses-back : (from to : Edition) → crosses to from ≡ crosses from to
-crosses-back from to = by (isFirst from) (isFirst to)
-  where
-    by : (x y : Bool) → not (Bool·beq y x) ≡ not (Bool·beq x y)
-    by true true = refl
-    by true false = refl
-    by false true = refl
-    by false false = refl
 
 -- a digit is its number, as it stands
 as-standing : (b : ℕ) → digits (b ∷ []) ≡ true → (number (b ∷ []) ≤ 9) × (b ∷ [] ≡ standing (number (b ∷ [])))

@@ -71,9 +71,9 @@ module _ (ed : Edition) (xs : List ℕ) (full : length xs ≡ lengthOf ed) where
       by false h = rw (others-blank e (leb-false _ _ h), text-none ed xs full e (leb-false _ _ h))
 
 -- every element of a record with blanks is legal
-pub all-legal : (ed : Edition) (xs : List ℕ) → Acceptable ed xs → (e : ℕ) → 1 ≤ e → e ≤ 101 → legalText ed e (textOf e (widened xs)) ≡ true
+pub widened-legal : (ed : Edition) (xs : List ℕ) → Acceptable ed xs → (e : ℕ) → 1 ≤ e → e ≤ 101 → legalText ed e (textOf e (widened xs)) ≡ true
 unfolding legal
-all-legal ed xs a e h l = by (leb e (lastOf ed)) refl
+widened-legal ed xs a e h l = by (leb e (lastOf ed)) refl
   where
     by : (x : Bool) → leb e (lastOf ed) ≡ x → legalText ed e (textOf e (widened xs)) ≡ true
     by true k = ap (legalText ed e) (own-kept ed xs (a .full) e (leb-true _ _ k)) ∙ a .lawful e h (leb-true _ _ k)

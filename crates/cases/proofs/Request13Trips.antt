@@ -4,7 +4,7 @@ use mathlib.Core.Path.{_≡_, refl}
 use mathlib.Core.List.{List, [], _∷_, map}
 use Prim.Native.Nat.{ℕ}
 use Rattle.text.specs.First.{firstFrom}
-use Rattle.text.specs.Bytes.{every, valueFrom, run}
+use Rattle.text.specs.Bytes.{bytesOf, every, valueFrom, run}
 use Rattle.text.specs.Texts.{allows}
 use Rattle.numerals.specs.Spelling.{spelled}
 use Rattle.losses.specs.Losses.{word, lossesOf}
@@ -21,7 +21,7 @@ use Rattle.meanings.specs.Meaning.{senseOf}
 use Rattle.meanings.specs.Kept.{keeps, lostText}
 use Rattle.recasting.specs.Recast.{hemisphere, widened, recastText, recastRecord, recastIn, recastTo, filledBy, leftTo, leftAfter}
 use Rattle.recasting.proofs.Request13ThereAndBack.{back}
-use Rattle.cases.specs.Cases.{bytesOf, at, edition1, edition3, edition4, position, lent}
+use Rattle.cases.specs.Cases.{at, edition1, edition3, edition4, position, lent}
 
 -- a record of an edition, the edition that it is recast to, and what comes home
 record Trip : Type 0 where

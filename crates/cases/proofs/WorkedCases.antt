@@ -5,7 +5,7 @@ use Prim.Native.Nat.{ℕ}
 use mathlib.Core.List.{List, [], _∷_, map}
 use lib.IntN.{ℤ, pos, negsuc, negℤ}
 use Rattle.text.specs.First.{firstFrom}
-use Rattle.text.specs.Bytes.{every, valueFrom, run}
+use Rattle.text.specs.Bytes.{bytesOf, every, valueFrom, run}
 use Rattle.text.specs.Texts.{allows}
 use Rattle.numerals.specs.Spelling.{spelled}
 use Rattle.losses.specs.Losses.{elements, word, lossesOf, hasLoss}
@@ -41,7 +41,6 @@ use Rattle.recasting.specs.Recast.{
   leftAfter,
 }
 use Rattle.cases.specs.Cases.{
-  bytesOf,
   at,
   edition1,
   edition3,

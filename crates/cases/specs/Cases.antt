@@ -1,10 +1,10 @@
 -- The worked cases of document 01 and of the requests: how the record of a case is made, what is asked of it, and what is answered by the calls' own definitions.
 -- Assumes nothing.
 use Prim.Native.Nat.{ℕ, _-_}
-use Prim.Native.Char.{code}
-use Prim.Native.String.{String, [] as empty, _∷_ as _then_}
-use mathlib.Core.List.{List, [], _∷_}
+use Prim.Native.String.{String}
+use mathlib.Core.List.{List, []}
 use lib.ListN.{length}
+use Rattle.text.specs.Bytes.{bytesOf}
 use Rattle.numerals.specs.Spelling.{placed, spelled}
 use Rattle.losses.specs.Losses.{lostList, hasLoss}
 use Rattle.checking.specs.declared.Answer.{Answer}
@@ -17,11 +17,6 @@ use Rattle.writing.specs.declared.Outcome as WriteOutcome
 use Rattle.writing.specs.Written as Written
 use Rattle.recasting.specs.declared.Outcome.{Outcome}
 use Rattle.recasting.specs.Recast.{blanks, recastOf, leftOf, outcomeNumber, outcomePlace, outcomeLosses}
-
--- the bytes of a quoted text
-unfoldable pub bytesOf : String → List ℕ
-bytesOf empty = []
-bytesOf (c then s) = code c ∷ bytesOf s
 
 -- a record with a text from column c on
 unfoldable pub at : ℕ → String → List ℕ → List ℕ

@@ -2,7 +2,7 @@
 use mathlib.Core.Path.{_≡_, refl, sym, ap, _∙_}
 use mathlib.Core.Bool.{Bool, true, false, _||_}
 use mathlib.Core.List.{List}
-use Prim.Native.Nat.{ℕ, _≤_}
+use Prim.Native.Nat.{ℕ, _<_, _≤_}
 use native.Mathlib.Omega.{arith}
 use lib.Dec.{eqb}
 use borrow.Author.Tests.{eq-eqb, ne-eqb, eqb-true}
@@ -78,3 +78,9 @@ module _ (xs : List ℕ) (r : Bool) (e : r ≡ knownLength (length xs)) where
       by-edition k m n =
           let o : m ≡ named xs = n ∙ ap editionOf (sym (first-of xs 65 111 column-111 (omega (arith, long-enough h)))) in
           rw (← e, h, ← f, ← format, k, ← o) (nowhere Unprintable c _ z)
+
+-- a line that is too long for any record is refused for its length
+pub too-long : (xs : List ℕ) → 159 < length xs → checked xs ≡ Refused Length
+too-long xs h = sym
+    (unknown-length xs (knownLength (length xs)) refl
+    (rw (ne-eqb (length xs) 131 (λ e. omega arith), ne-eqb (length xs) 159 (λ e. omega arith))))

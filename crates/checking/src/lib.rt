@@ -8,8 +8,11 @@ use layout::Named;
 use layout::Refusal;
 use layout::page;
 ghost use mathlib.Core.Path.{_≡_};
+ghost use Prim.Native.Nat.{_≤_};
 ghost use lib.ListN.{length};
 ghost use Rattle.text.specs.First.{firstOf};
+ghost use Rattle.layout.specs.declared.Edition.{Edition};
+ghost use Rattle.layout.specs.Editions.{lengthOf};
 ghost use Rattle.checking.specs.Check.{knownLength, printableAt, checkedIn, checked, answerNumber, answerPlace, callSignOf};
 
 // What checking a record answers.
@@ -111,12 +114,15 @@ pub fn check(line: &[u8]) -> Answer
     }
 }
 
-// The call sign, as the part of the caller's own record that holds it: from column 72 to its last
-// non-blank. Empty where it is missing, and where the record is refused.
-pub fn show_call_sign(line: &[u8]) -> &[u8]
-    ensures { λ r. ⌜ now r ≡ callSignOf (checked (now (line .entry))) (now (line .entry)) ⌝ }
+// The call sign of a record of which the check's answer is known, as the part of the caller's own record
+// that holds it: from column 72 to its last non-blank. Empty where it is missing, and where the record is
+// refused.
+pub fn call_sign_after(answer: Answer, line: &[u8]) -> &[u8]
+    requires { ⌜ ((ed : Edition) → answer ≡ Answer.Accepted ed → length (now line) ≡ lengthOf ed) ⌝ }
+    ensures { λ r. ⌜ now r ≡ callSignOf answer (now (line .entry)) ⌝ }
+    ensures { λ r. ⌜ length (now r) ≤ 7 ⌝ }
 {
-    match check(line) {
+    match answer {
         Answer::Accepted(_) => {
             let part = page::full_text(line, 42);
             let n = text::filled(part);
@@ -124,4 +130,11 @@ pub fn show_call_sign(line: &[u8]) -> &[u8]
         }
         Answer::Refused(_) => &line[..0],
     }
+}
+
+// The same of any line.
+pub fn show_call_sign(line: &[u8]) -> &[u8]
+    ensures { λ r. ⌜ now r ≡ callSignOf (checked (now (line .entry))) (now (line .entry)) ⌝ }
+{
+    call_sign_after(check(line), line)
 }

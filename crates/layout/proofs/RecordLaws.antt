@@ -11,7 +11,8 @@ use lib.ListN.{length, take, drop, length-append, length-drop}
 use lib.Seq.{take-all, take-at, drop-at, length-take-le, take-take, take-add, drop-drop}
 use Rattle.layout.specs.declared.Edition.{Edition}
 use Rattle.layout.specs.declared.Edition.the-variants.{One, Three, Four}
-use Rattle.layout.specs.Editions.{lengthOf, lastOf}
+use Rattle.layout.specs.declared.Named.the-variants.{Known}
+use Rattle.layout.specs.Editions.{asked, editionNumber, lengthOf, lastOf}
 use Rattle.layout.specs.Page.{columns, widthOf, startOf, textOf}
 use Rattle.layout.specs.Records.{rowFrom, recordFrom}
 use Rattle.layout.proofs.Columns.{start-next, start-rises, filled, some-column}
@@ -23,6 +24,12 @@ part-of-front s w n l h k = sym (cut s w (take n l) (omega (arith, length-take-l
   where
     cut : {A : Type 0} (s w : ℕ) (l : List A) → s + w ≤ length l → drop s (take (s + w) l) ≡ take w (drop s l)
     cut s w l h = ap (drop s) (take-add s w l) ∙ drop-at (take s l) (take w (drop s l)) s (length-take-le s l (omega arith))
+
+-- an edition goes by its number
+pub by-number : (ed : Edition) → asked (editionNumber ed) ≡ Known ed
+by-number One = refl
+by-number Three = refl
+by-number Four = refl
 
 -- the longest record has 159 columns, the shortest 131
 pub most : (ed : Edition) → lengthOf ed ≤ 159

@@ -17,13 +17,12 @@ use Rattle.losses.specs.Losses.{noLosses, lossesOf, hasLoss}
 use Rattle.losses.specs.declared.Losses.{Losses}
 use Rattle.losses.proofs.Demand3Losses.{has-exactly, empty-set, none-lost}
 use Rattle.layout.specs.declared.Edition.{Edition}
-use Rattle.layout.specs.declared.Edition.the-variants.{One, Three, Four}
-use Rattle.layout.specs.declared.Named.the-variants.{Known}
-use Rattle.layout.specs.Editions.{asked, editionNumber, lengthOf}
+use Rattle.layout.specs.Editions.{editionNumber, lengthOf}
 use Rattle.layout.specs.Page.{element, page, textOf}
 use Rattle.layout.proofs.Beyond.{last-above}
 use Rattle.layout.proofs.Elements.{in-each}
 use Rattle.layout.proofs.Holding.{at-most}
+use Rattle.layout.proofs.RecordLaws.{by-number}
 use Rattle.ties.specs.Ties.{tie}
 use Rattle.ties.proofs.Together.{latitude-alike, longitude-alike}
 use Rattle.places.specs.declared.Place.{Place}
@@ -157,11 +156,6 @@ module _ (from to : Edition) (xs : List ℕ) (a : Acceptable from xs) where
       by (first-characters k e) = e
       by (was-lost k b) = absurd (true≢false (sym k ∙ not-lost))
       by (another-digit e d) = absurd (n (d .edge))
-
-by-number : (ed : Edition) → asked (editionNumber ed) ≡ Known ed
-by-number One = refl
-by-number Three = refl
-by-number Four = refl
 
 -- of the calls
 module _ (from to : Edition) (xs outward homeward : List ℕ) (ok : checked xs ≡ Accepted from) (room : lengthOf to ≤ length outward) (room-home : lengthOf from ≤ length homeward) where

@@ -1,2 +1,2 @@
--- The laws of putting lines that the functions of this crate and of the run cite.
-pub mod PutLaws
+-- The laws of the lines that more than one report has.
+pub mod SignLine

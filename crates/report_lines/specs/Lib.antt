@@ -1,2 +1,2 @@
 pub mod Sentences
-pub mod Puts
+pub mod Says

@@ -1,62 +1,34 @@
--- The lines of the recast report, byte by byte: the heading, the line of a record, the last line. Assumes nothing.
+-- The lines that more than one report has, in words. Assumes nothing.
 use Prim.Native.Nat.{ℕ}
+use mathlib.Core.Bool.{Bool, true, false}
 use mathlib.Core.List.{List, [], _∷_, _++_}
+use Rattle.text.specs.Bytes.{bytesOf}
 use Rattle.layout.specs.declared.Edition.{Edition}
+use Rattle.layout.specs.declared.Refusal.{Refusal}
 use Rattle.layout.specs.Editions.{editionNumber}
 use Rattle.layout.specs.Refusals.{numberOf, placeOf}
-use Rattle.losses.specs.declared.Losses.{Losses}
-use Rattle.losses.specs.Losses.{elements, countOf, hasLoss}
-use Rattle.recasting.specs.declared.Outcome.{Outcome}
-use Rattle.recasting.specs.declared.Outcome.the-variants.{Done, Unrecast}
-use Rattle.wording.specs.Wording.{decimal}
+use Rattle.checking.specs.declared.Answer.{Answer}
+use Rattle.checking.specs.declared.Answer.the-variants.{Accepted, Refused}
+use Rattle.wording.specs.Wording.{decimal, numbered, lineEnd}
 
--- the words, byte by byte
-abbrev pub blank : List ℕ
-blank = 32 ∷ []
+-- the line of a refused record: its count, 'refused', the number of the refusal and its place
+unfoldable pub refusedLine : ℕ → Refusal → List ℕ
+refusedLine n r = decimal n ++ numbered (bytesOf " refused ") (numberOf r) ++ numbered (bytesOf " ") (placeOf r) ++ lineEnd
 
-abbrev pub newline : List ℕ
-newline = 10 ∷ []
+-- the line of an accepted record: its count, 'ok' and its edition
+unfoldable pub acceptedLine : ℕ → Edition → List ℕ
+acceptedLine n edition = decimal n ++ numbered (bytesOf " ok edition ") (editionNumber edition) ++ lineEnd
 
--- ' ok '
-abbrev pub ok : List ℕ
-ok = 32 ∷ 111 ∷ 107 ∷ 32 ∷ []
+-- the line of its call sign, where it has one
+unfoldable pub callSignLine : ℕ → List ℕ → List ℕ
+callSignLine n [] = []
+callSignLine n (b ∷ sign) = decimal n ++ bytesOf " call sign " ++ (b ∷ sign) ++ lineEnd
 
--- ' refused '
-abbrev pub refused : List ℕ
-refused = 32 ∷ 114 ∷ 101 ∷ 102 ∷ 117 ∷ 115 ∷ 101 ∷ 100 ∷ 32 ∷ []
-
--- 'records '
-abbrev pub records : List ℕ
-records = 114 ∷ 101 ∷ 99 ∷ 111 ∷ 114 ∷ 100 ∷ 115 ∷ 32 ∷ []
-
--- 'recast to '
-abbrev pub recastTo : List ℕ
-recastTo = 114 ∷ 101 ∷ 99 ∷ 97 ∷ 115 ∷ 116 ∷ 32 ∷ 116 ∷ 111 ∷ 32 ∷ []
-
--- 'recast refused 8' and the line's end
-abbrev pub notHeld : List ℕ
-notHeld = 114 ∷ 101 ∷ 99 ∷ 97 ∷ 115 ∷ 116 ∷ 32 ∷ 114 ∷ 101 ∷ 102 ∷ 117 ∷ 115 ∷ 101 ∷ 100 ∷ 32 ∷ 56 ∷ 10 ∷ []
-
--- a word and a number after it; numbers, with a blank before each
-abbrev pub numbered : List ℕ → ℕ → List ℕ
-numbered word n = word ++ decimal n
-
-unfoldable pub numbers : List ℕ → List ℕ
-numbers [] = []
-numbers (n ∷ ns) = numbered blank n ++ numbers ns
-
--- the elements that are lost, rising
-abbrev pub lost : Losses → List ℕ
-lost l = numbers (elements (hasLoss l) 1 101)
-
--- the line of a record: its count, then 'ok', how many elements are lost and which; or 'refused', number and place
-unfoldable pub recordLine : ℕ → Outcome → List ℕ
-recordLine n (Done l) = decimal n ++ numbered ok (countOf l) ++ lost l ++ newline
-recordLine n (Unrecast r) = decimal n ++ numbered refused (numberOf r) ++ numbered blank (placeOf r) ++ newline
-
--- the first line of a report, and the last, which counts all records and the refused
-unfoldable pub heading : Edition → List ℕ
-heading edition = numbered recastTo (editionNumber edition) ++ newline
-
+-- the last line, which counts all records and the refused
 unfoldable pub totals : ℕ → ℕ → List ℕ
-totals n m = numbered records n ++ numbered refused m ++ newline
+totals n m = numbered (bytesOf "records ") n ++ numbered (bytesOf " refused ") m ++ lineEnd
+
+-- whether an answer is a refusal
+abbrev pub isRefused : Answer → Bool
+isRefused (Accepted edition) = false
+isRefused (Refused r) = true

@@ -9,33 +9,33 @@ use lib.Dec.{leb, ltb}
 use lib.ListN.{length, take, length-append}
 use lib.Seq.{take-all, take-append-le, length-take-le}
 use Rattle.layout.specs.declared.Refusal.the-variants.{Length}
+use Rattle.layout.specs.declared.Named.{Named}
 use Rattle.layout.specs.declared.Named.the-variants.{Unknown}
-use Rattle.layout.specs.Editions.{editionNumber}
-use Rattle.checking.specs.declared.Answer.{Answer}
-use Rattle.checking.specs.declared.Answer.the-variants.{Refused}
-use Rattle.checking.specs.Check.{checked, knownLength}
-use Rattle.checking.proofs.CheckLaws.{unknown-length}
-use Rattle.recasting.specs.declared.Outcome.the-variants.{Unrecast}
-use Rattle.recasting.specs.Recast.{recastAfter, recastOf}
-use Rattle.report_lines.specs.Sentences.{recordLine}
+use Rattle.report_lines.specs.Sentences.{refusedLine}
+use Rattle.check_lines.proofs.CheckTold as Checked
+use Rattle.reading_lines.proofs.ReadTold as Read
+use Rattle.recast_lines.proofs.LongLaws as Recasts
+use Rattle.reporting.specs.declared.Job.{Job}
+use Rattle.reporting.specs.declared.Job.the-variants.{Check, Readings, Recast}
 use Rattle.reporting.specs.declared.Stage.{Stage}
-use Rattle.reporting.specs.declared.Stage.the-variants.{Waiting, Closed, Recasting}
+use Rattle.reporting.specs.declared.Stage.the-variants.{Asking, Closed, Telling}
 use Rattle.reporting.specs.declared.Ledger.{Ledger}
-use Rattle.reporting.specs.Report.{askedBy}
+use Rattle.reporting.specs.Report.{saidFor, refusedFor, askedBy}
 use Rattle.reporting.specs.Run.{ledger, ledgerIn, ledgerAfter, saidIn, saidOf, opened, opening, oneMore, refusedAfter, kept}
 
--- a line that is too long for a record is refused for its length
+-- a line that is too long for a record is refused for its length, whatever the job, and asks for no edition
 module _ (line : List ℕ) (long : 159 < length line) where
-  long-checked : checked line ≡ Refused Length
-  long-checked =
-      sym (unknown-length line (knownLength (length line)) refl
-      (rw (ne-eqb (length line) 131 (λ e. omega arith), ne-eqb (length line) 159 (λ e. omega arith))))
+  long-said : (job : Job) (n : ℕ) → saidFor job n line ≡ refusedLine n Length
+  long-said Check n = Checked.long-said line long n
+  long-said Readings n = Read.long-said line long n
+  long-said (Recast edition) n = Recasts.long-said line long edition n
 
-  pub long-recast : (edition room : ℕ) → recastOf line edition room ≡ Unrecast Length
-  unfolding recastAfter
-  long-recast edition room = ap (λ (a : Answer). recastAfter a line edition room) long-checked
+  long-refused : (job : Job) → refusedFor job line ≡ true
+  long-refused Check = Checked.long-refused line long
+  long-refused Readings = Read.long-refused line long
+  long-refused (Recast edition) = Recasts.long-refused line long edition
 
-  pub long-asked : askedBy line ≡ Unknown
+  long-asked : askedBy line ≡ Unknown
   unfolding askedBy
   long-asked = rw (ne-eqb (length line) 1 (λ e. omega arith))
 
@@ -50,22 +50,24 @@ module _ {A : Type 0} (tell : List ℕ → A) (a : A) (same : (line : List ℕ) 
           let long = leb-false (length line) 160 e in
           same (take 160 line) (omega (arith, length-take-le 160 line (omega arith))) ∙ sym (same line (omega arith))
 
-pub recast-cut : (edition room : ℕ) (line : List ℕ) → recastOf (take 160 line) edition room ≡ recastOf line edition room
-recast-cut edition room = cut (λ line. recastOf line edition room) (Unrecast Length) (λ line long. long-recast line long edition room)
+said-for-cut : (job : Job) (n : ℕ) (line : List ℕ) → saidFor job n (take 160 line) ≡ saidFor job n line
+said-for-cut job n = cut (λ line. saidFor job n line) (refusedLine n Length) (λ line long. long-said line long job n)
 
-pub asked-cut : (line : List ℕ) → askedBy (take 160 line) ≡ askedBy line
+refused-cut : (job : Job) (line : List ℕ) → refusedFor job (take 160 line) ≡ refusedFor job line
+refused-cut job = cut (λ line. refusedFor job line) true (λ line long. long-refused line long job)
+
+asked-cut : (line : List ℕ) → askedBy (take 160 line) ≡ askedBy line
 asked-cut = cut askedBy Unknown long-asked
 
 said-in-cut : (s : Stage) (n : ℕ) (line : List ℕ) → saidIn s n (take 160 line) ≡ saidIn s n line
-said-in-cut Waiting n line = ap opening (asked-cut line)
+said-in-cut Asking n line = ap opening (asked-cut line)
 said-in-cut Closed n line = refl
-said-in-cut (Recasting edition) n line = ap (recordLine (oneMore n)) (recast-cut (editionNumber edition) 159 line)
+said-in-cut (Telling job) n line = said-for-cut job (oneMore n) line
 
 ledger-in-cut : (s : Stage) (n m : ℕ) (line : List ℕ) → ledgerIn s n m (take 160 line) ≡ ledgerIn s n m line
-ledger-in-cut Waiting n m line = ap (λ w. ledger (opened w) n m) (asked-cut line)
+ledger-in-cut Asking n m line = ap (λ (w : Named). ledger (opened w) n m) (asked-cut line)
 ledger-in-cut Closed n m line = refl
-ledger-in-cut (Recasting edition) n m line =
-    ap (λ o. ledger (Recasting edition) (oneMore n) (refusedAfter o m)) (recast-cut (editionNumber edition) 159 line)
+ledger-in-cut (Telling job) n m line = ap (λ (b : Bool). ledger (Telling job) (oneMore n) (refusedAfter b m)) (refused-cut job line)
 
 pub said-cut : (l : Ledger) (line : List ℕ) → saidOf l (take 160 line) ≡ saidOf l line
 unfolding saidOf

@@ -10,14 +10,15 @@ use lib.Dec.{eqb}
 use lib.ListN.{length, getD, take, drop, length-drop}
 use lib.Seq.{getD-drop, take-all, take-add, take-suc, length-take-le}
 use Rattle.bytes.specs.Bytes.{indexOf, indexAfter}
-use Rattle.report_lines.specs.Puts.{Puts}
+use Rattle.wording.specs.Puts.{Puts}
+use Rattle.report_lines.specs.Says.{recordMost}
 use Rattle.reporting.specs.declared.Ledger.{Ledger}
 use Rattle.reporting.specs.declared.Run.{Run}
 use Rattle.reporting.specs.declared.Told.{Told}
 use Rattle.reporting.specs.Lines.{nextEnd}
 use Rattle.reporting.specs.Run.{State, state, ledgerAfter, saidOf, kept, step, stateAfter, saidBy}
 use Rattle.reporting.specs.Contracts.{Tells, Feeds}
-use Rattle.report_lines.proofs.PutLaws.{nothing, also}
+use Rattle.wording.proofs.PutLaws.{nothing, also}
 use Rattle.reporting.proofs.CutLaws.{kept-cut}
 use Rattle.reporting.proofs.RunLaws.{state-append, said-append}
 use Rattle.reporting.proofs.FinishLaws.{held-view}
@@ -163,7 +164,7 @@ module _ {s : State} {piece before now held : List ℕ} {l : Ledger} {count at w
 -- where it stops, all of the piece is taken, or too little room is left for another line
 module _ (run : Run) (long : length (run .held) ≡ 160) (n : ℕ) (e : n ≡ min (run .length) 160) where
   pub feeds : {piece before now held : List ℕ} {l : Ledger} {count at written : ℕ} →
-      SoFar (state (run .ledger) (take n (run .held))) piece before now held l count at written → (at < length piece → length before < written + 512) →
+      SoFar (state (run .ledger) (take n (run .held))) piece before now held l count at written → (at < length piece → length before < written + recordMost) →
       Feeds run piece before now (record { run = record { ledger = l; held = held; length = count }; taken = at; written = written })
   unfolding saidBy
   feeds {piece} {before} {now} {held} {l} {count} {at} {written} f h =
@@ -177,7 +178,7 @@ module _ (run : Run) (long : length (run .held) ≡ 160) (n : ℕ) (e : n ≡ mi
         moves = by at refl;
       }
     where
-      by : (k : ℕ) → at ≡ k → 512 ≤ length before → 0 < length piece → 0 < at
+      by : (k : ℕ) → at ≡ k → recordMost ≤ length before → 0 < length piece → 0 < at
       by zero z r p =
           let none : length (saidBy (state (run .ledger) (take n (run .held))) (take at piece)) ≡ 0 = rw z in
           let full = h (omega arith) in

@@ -1,25 +1,26 @@
 -- What a line leads to, by the stage that it finds. Assumes nothing.
 use mathlib.Core.Path.{_≡_, sym, ap, _∙_}
+use mathlib.Core.Bool.{Bool}
 use mathlib.Core.List.{List}
 use Prim.Native.Nat.{ℕ, _+_, _<_, _≤_}
 use native.Mathlib.Omega.{arith}
 use borrow.Author.Tests.{lt-ltb, le-ltb, eq-eqb, ne-eqb}
 use lib.ListN.{length, getD, take}
-use Rattle.layout.specs.declared.Edition.{Edition}
 use Rattle.layout.specs.declared.Named.{Named}
 use Rattle.layout.specs.declared.Named.the-variants.{Unknown}
 use Rattle.layout.specs.Editions.{editionOf}
-use Rattle.recasting.specs.declared.Outcome.{Outcome}
-use Rattle.report_lines.specs.Sentences.{recordLine}
-use Rattle.report_lines.specs.Puts.{Puts}
+use Rattle.wording.specs.Puts.{Puts}
+use Rattle.report_lines.specs.declared.Said.{Said}
+use Rattle.report_lines.specs.Says.{lineMost, Says}
+use Rattle.reporting.specs.declared.Job.{Job}
 use Rattle.reporting.specs.declared.Stage.{Stage}
-use Rattle.reporting.specs.declared.Stage.the-variants.{Waiting, Closed, Recasting}
+use Rattle.reporting.specs.declared.Stage.the-variants.{Asking, Closed, Telling}
 use Rattle.reporting.specs.declared.Ledger.{Ledger}
 use Rattle.reporting.specs.declared.Told.{Told}
-use Rattle.reporting.specs.Report.{askedBy, outcomeOf}
-use Rattle.reporting.specs.Run.{ledger, oneMore, opened, opening, refusedAfter, ledgerAfter, saidOf, lastIn, lastOf}
+use Rattle.reporting.specs.Report.{saidFor, refusedFor, askedBy}
+use Rattle.reporting.specs.Run.{ledger, oneMore, opened, opening, refusedAfter, ledgerAfter, saidOf, lastIn, lastOf, hasRefusedIn, hasRefused}
 use Rattle.reporting.specs.Contracts.{Tells}
-use Rattle.report_lines.proofs.PutLaws.{nothing}
+use Rattle.wording.proofs.PutLaws.{nothing}
 use Rattle.reporting.proofs.CutLaws.{said-cut, ledger-cut}
 
 abbrev told : Ledger → ℕ → Told
@@ -46,19 +47,20 @@ module _ (line : List ℕ) where
   asks h = rw (eq-eqb (length line) 1 h)
 
 module _ (line : List ℕ) (n m : ℕ) {at : ℕ} {before after : List ℕ} {end : ℕ} where
-  pub first-tells : (w : Named) → w ≡ askedBy line → Puts (opening w) at before after end → end ≤ at + 512 →
-      Tells (ledger Waiting n m) line at before after (told (ledger (opened w) n m) end)
+  pub first-tells : (w : Named) → w ≡ askedBy line → Puts (opening w) at before after end → end ≤ at + lineMost →
+      Tells (ledger Asking n m) line at before after (told (ledger (opened w) n m) end)
   unfolding ledgerAfter saidOf
-  first-tells w e p h = record { next = ap (λ (v : Named). ledger (opened v) n m) e; said = rw (← e) p; short = h }
+  first-tells w e p h = record { next = ap (λ (v : Named). ledger (opened v) n m) e; said = rw (← e) p; short = omega arith }
 
-  pub record-tells : (edition : Edition) (count : ℕ) (o : Outcome) (k : ℕ) → count ≡ oneMore n → o ≡ outcomeOf edition line → k ≡ refusedAfter o m →
-      Puts (recordLine count o) at before after end → end ≤ at + 512 →
-      Tells (ledger (Recasting edition) n m) line at before after (told (ledger (Recasting edition) count k) end)
+module _ (line : List ℕ) (n m : ℕ) {at : ℕ} {before after : List ℕ} where
+  pub record-tells : (job : Job) (count : ℕ) (s : Said) (k : ℕ) → count ≡ oneMore n → k ≡ refusedAfter (s .refused) m →
+      Says (saidFor job count line) (refusedFor job line) at before after s →
+      Tells (ledger (Telling job) n m) line at before after (told (ledger (Telling job) count k) (s .end))
   unfolding ledgerAfter saidOf
-  record-tells edition count o k e f g p h = record {
-    next = ap (λ (i : ℕ). ledger (Recasting edition) i k) e ∙ ap (ledger (Recasting edition) (oneMore n)) (g ∙ ap (λ (q : Outcome). refusedAfter q m) f);
-    said = rw (← e, ← f) p;
-    short = h;
+  record-tells job count s k e g p = record {
+    next = ap (λ (i : ℕ). ledger (Telling job) i k) e ∙ ap (ledger (Telling job) (oneMore n)) (g ∙ ap (λ (b : Bool). refusedAfter b m) (p .refuses));
+    said = rw (← e) (p .puts);
+    short = p .short;
   }
 
 -- a ledger by its stage
@@ -79,3 +81,8 @@ pub stage-last : (l : Ledger) (s : Stage) → l .stage ≡ s → {at : ℕ} {bef
     Puts (lastIn s (l .records) (l .refused)) at before after end → Puts (lastOf l) at before after end
 unfolding lastOf
 stage-last l s e p = rw e p
+
+-- whether anything was refused, by the stage
+pub stage-refused : (l : Ledger) (s : Stage) {r : Bool} → l .stage ≡ s → r ≡ hasRefusedIn s (l .refused) → r ≡ hasRefused l
+unfolding hasRefused
+stage-refused l s e p = rw e p

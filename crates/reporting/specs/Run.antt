@@ -1,19 +1,19 @@
--- The run that makes the report, byte by byte: what is carried from a byte to the next, and what is said at each. Assumes nothing.
+-- The run that makes a report, byte by byte: what is carried from a byte to the next, and what is said at each. Assumes nothing.
 use Prim.Native.Nat.{ℕ, _+_}
-use mathlib.Core.Bool.{cond}
+use mathlib.Core.Bool.{Bool, true, cond}
 use mathlib.Core.List.{List, [], _∷_, _++_}
 use lib.Dec.{eqb, ltb}
 use lib.ListN.{length, take}
 use Rattle.layout.specs.declared.Named.{Named}
 use Rattle.layout.specs.declared.Named.the-variants.{Known, Unknown}
-use Rattle.recasting.specs.declared.Outcome.{Outcome}
-use Rattle.recasting.specs.declared.Outcome.the-variants.{Done, Unrecast}
+use Rattle.report_lines.specs.Sentences.{totals}
+use Rattle.recast_lines.specs.Sentences.{heading, notHeld}
+use Rattle.reporting.specs.declared.Job.the-variants.{Recast}
 use Rattle.reporting.specs.declared.Stage.{Stage}
-use Rattle.reporting.specs.declared.Stage.the-variants.{Waiting, Closed, Recasting}
+use Rattle.reporting.specs.declared.Stage.the-variants.{Asking, Closed, Telling}
 use Rattle.reporting.specs.declared.Ledger.{Ledger}
 use Rattle.reporting.specs.declared.Run.{Run}
-use Rattle.report_lines.specs.Sentences.{heading, notHeld, recordLine, totals}
-use Rattle.reporting.specs.Report.{askedBy, outcomeOf}
+use Rattle.reporting.specs.Report.{saidFor, refusedFor, askedBy}
 
 -- the ledger after the lines that have ended, and the line so far: its first 160 bytes
 pub record State : Type 0 where
@@ -27,40 +27,39 @@ abbrev pub ledger : Stage → ℕ → ℕ → Ledger
 ledger s n m = record { stage = s; records = n; refused = m }
 
 -- before the first byte
-abbrev pub start : State
-start = state (ledger Waiting 0 0) []
+abbrev pub start : Stage → State
+start s = state (ledger s 0 0) []
 
 -- the next count; the last u64 has none after it
 unfoldable pub oneMore : ℕ → ℕ
 oneMore n = cond (ltb n 18446744073709551615) (n + 1) n
 
--- what the first line leads to, and what is said of it
+-- what a first line that asks leads to, and what is said of it
 abbrev pub opened : Named → Stage
-opened (Known edition) = Recasting edition
+opened (Known edition) = Telling (Recast edition)
 opened Unknown = Closed
 
 abbrev pub opening : Named → List ℕ
 opening (Known edition) = heading edition
 opening Unknown = notHeld
 
--- the refused after an outcome
-abbrev pub refusedAfter : Outcome → ℕ → ℕ
-refusedAfter (Done l) m = m
-refusedAfter (Unrecast r) m = oneMore m
+-- the refused after a record
+abbrev pub refusedAfter : Bool → ℕ → ℕ
+refusedAfter refused m = cond refused (oneMore m) m
 
 -- the ledger after a line, by its stage, and what is said of the line
 abbrev pub ledgerIn : Stage → ℕ → ℕ → List ℕ → Ledger
-ledgerIn Waiting n m line = ledger (opened (askedBy line)) n m
+ledgerIn Asking n m line = ledger (opened (askedBy line)) n m
 ledgerIn Closed n m line = ledger Closed n m
-ledgerIn (Recasting edition) n m line = ledger (Recasting edition) (oneMore n) (refusedAfter (outcomeOf edition line) m)
+ledgerIn (Telling job) n m line = ledger (Telling job) (oneMore n) (refusedAfter (refusedFor job line) m)
 
 unfoldable pub ledgerAfter : Ledger → List ℕ → Ledger
 ledgerAfter l line = ledgerIn (l .stage) (l .records) (l .refused) line
 
 abbrev pub saidIn : Stage → ℕ → List ℕ → List ℕ
-saidIn Waiting n line = opening (askedBy line)
+saidIn Asking n line = opening (askedBy line)
 saidIn Closed n line = []
-saidIn (Recasting edition) n line = recordLine (oneMore n) (outcomeOf edition line)
+saidIn (Telling job) n line = saidFor job (oneMore n) line
 
 unfoldable pub saidOf : Ledger → List ℕ → List ℕ
 saidOf l line = saidIn (l .stage) (l .records) line
@@ -85,16 +84,31 @@ unfoldable pub saidBy : State → List ℕ → List ℕ
 saidBy s [] = []
 saidBy s (b ∷ bytes) = saidAt s b ++ saidBy (step s b) bytes
 
--- the last words, by the stage
+-- the last words, by the stage; and whether anything was refused
 abbrev pub lastIn : Stage → ℕ → ℕ → List ℕ
-lastIn Waiting n m = notHeld
+lastIn Asking n m = notHeld
 lastIn Closed n m = []
-lastIn (Recasting edition) n m = totals n m
+lastIn (Telling job) n m = totals n m
 
 unfoldable pub lastOf : Ledger → List ℕ
 lastOf l = lastIn (l .stage) (l .records) (l .refused)
 
--- what is said at the end of the input: of the line that has no end, if there is one, and last
+abbrev pub hasRefusedIn : Stage → ℕ → Bool
+hasRefusedIn Asking m = true
+hasRefusedIn Closed m = true
+hasRefusedIn (Telling job) m = ltb 0 m
+
+unfoldable pub hasRefused : Ledger → Bool
+hasRefused l = hasRefusedIn (l .stage) (l .refused)
+
+-- the end of the input: the ledger after the line that has no end, if there is one, and what is said of that line and last
+abbrev pub endWith : Ledger → List ℕ → Ledger
+endWith l [] = l
+endWith l (b ∷ held) = ledgerAfter l (b ∷ held)
+
+unfoldable pub endOf : State → Ledger
+endOf s = endWith (s .ledger) (s .held)
+
 abbrev pub closingWith : Ledger → List ℕ → List ℕ
 closingWith l [] = lastOf l
 closingWith l (b ∷ held) = saidOf l (b ∷ held) ++ lastOf (ledgerAfter l (b ∷ held))

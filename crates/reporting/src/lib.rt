@@ -1,31 +1,43 @@
-// The recast report as a run over its input: fed piece after piece, and finished.
+// A report as a run over its input: fed piece after piece, and finished.
 //
-// The first line of the input names the edition asked for, and each line after it is a record. The
+// The job says what is told of each record; a report may begin with a line that asks for an edition. The
 // contracts cite specs/Run.antt, where the run is told byte by byte; that a run says the report of the
-// whole input, in whatever pieces it was fed, is proved in proofs/Demand2Run.antt.
+// whole input, in whatever pieces it was fed, is proved in proofs/Demand2Run.antt for every job at once.
 mod ends;
 
 use ends::line_end;
 use layout::Edition;
 use layout::Named;
-use recasting::Outcome;
+use report_lines::RECORD_MOST;
+use report_lines::Said;
 ghost use mathlib.Core.Path.{_≡_};
 ghost use mathlib.Core.List.{_++_};
 ghost use Prim.Native.Nat.{_+_, _≤_, min};
 ghost use lib.ListN.{length, take};
-ghost use Rattle.report_lines.specs.Puts.{Puts};
-ghost use Rattle.reporting.specs.Report.{askedBy};
-ghost use Rattle.reporting.specs.Run.{start, view, ledger, oneMore, refusedAfter, lastOf};
+ghost use Rattle.wording.specs.Puts.{Puts};
+ghost use Rattle.report_lines.specs.Says.{lineMost, recordMost, Says};
+ghost use Rattle.reporting.specs.Report.{saidFor, refusedFor, askedBy};
+ghost use Rattle.reporting.specs.Run.{start, view, ledger, oneMore, refusedAfter, lastOf, hasRefused};
 ghost use Rattle.reporting.specs.Contracts.{Tells, Feeds, Finishes};
+
+// What is told of each record.
+pub enum Job {
+    // what the check answers
+    Check,
+    // what the record holds, and whether writing that gives it back
+    Readings,
+    // what recasting it to this edition loses
+    Recast(Edition),
+}
 
 // What the lines so far have led to.
 pub enum Stage {
-    // the first line is still to end
-    Waiting,
-    // the first line asked for no edition that is held: nothing more is said
+    // the first line is still to end, which asks for an edition to recast to
+    Asking,
+    // it asked for none that is held: nothing more is said
     Closed,
-    // each line is a record, to be recast to this edition
-    Recasting(Edition),
+    // each line is a record
+    Telling(Job),
 }
 
 // The stage, and how many records were met and how many of them were refused.
@@ -51,18 +63,27 @@ pub struct Fed {
     pub written: usize,
 }
 
+// What finishing a run leads to: how many bytes were written, and whether anything was refused.
+pub struct Finished {
+    pub written: usize,
+    pub refused: bool,
+}
+
 // What a line leads to: the ledger after it, and the place after what is said of it.
 struct Told {
     ledger: Ledger,
     end: usize,
 }
 
+// The room that whatever is said at the end has in the buffer: what is said of a record, and the last line.
+pub const CLOSING_MOST: usize = 12400;
+
 // The run before the first byte.
-pub fn start() -> Run
-    ensures { λ r. ⌜ view r ≡ start ⌝ }
+pub fn start(stage: Stage) -> Run
+    ensures { λ r. ⌜ view r ≡ start stage ⌝ }
 {
     let ledger = Ledger {
-        stage: Stage::Waiting,
+        stage: stage,
         records: 0,
         refused: 0,
     };
@@ -87,7 +108,7 @@ fn least(a: usize, b: usize) -> usize
     if a < b { a } else { b }
 }
 
-// The edition that the first line asks for.
+// The edition that a first line asks for.
 fn asked_by(line: &[u8]) -> Named
     ensures { λ r. ⌜ r ≡ askedBy (now (line .entry)) ⌝ }
 {
@@ -97,16 +118,16 @@ fn asked_by(line: &[u8]) -> Named
     Edition::of_digit(line[0])
 }
 
-// Takes the first line: says what it asks for, and answers the stage that it leads to.
+// Takes a first line that asks: says what it asks for, and answers the stage that it leads to.
 fn take_first(line: &[u8], records: u64, refused: u64, out: &mut [u8], at: usize) -> Told
-    requires { ⌜ at + 512 ≤ length (now out) ⌝ }
-    ensures { λ r. ⌜ Tells (ledger Stage.Waiting records refused) (now (line .entry)) at (now (out .entry)) (now (out .exit)) r ⌝ }
+    requires { ⌜ at + recordMost ≤ length (now out) ⌝ }
+    ensures { λ r. ⌜ Tells (ledger Stage.Asking records refused) (now (line .entry)) at (now (out .entry)) (now (out .exit)) r ⌝ }
 {
     match asked_by(line) {
         Named::Known(edition) => {
-            let end = report_lines::put_heading(out, at, edition);
+            let end = recast_lines::put_heading(out, at, edition);
             let ledger = Ledger {
-                stage: Stage::Recasting(edition),
+                stage: Stage::Telling(Job::Recast(edition)),
                 records: records,
                 refused: refused,
             };
@@ -116,7 +137,7 @@ fn take_first(line: &[u8], records: u64, refused: u64, out: &mut [u8], at: usize
             }
         }
         Named::Unknown => {
-            let end = report_lines::put_not_held(out, at);
+            let end = recast_lines::put_not_held(out, at);
             let ledger = Ledger {
                 stage: Stage::Closed,
                 records: records,
@@ -130,37 +151,42 @@ fn take_first(line: &[u8], records: u64, refused: u64, out: &mut [u8], at: usize
     }
 }
 
-// How many records are refused after an outcome.
-fn refused_after(outcome: Outcome, refused: u64) -> u64
-    ensures { λ r. ⌜ r ≡ refusedAfter outcome refused ⌝ }
+// Says of a record what the job has to say of it.
+fn tell(job: Job, line: &[u8], count: u64, out: &mut [u8], at: usize) -> Said
+    requires { ⌜ at + recordMost ≤ length (now out) ⌝ }
+    ensures { λ r. ⌜ Says (saidFor job count (now (line .entry))) (refusedFor job (now (line .entry))) at (now (out .entry)) (now (out .exit)) r ⌝ }
 {
-    match outcome {
-        Outcome::Done(_) => refused,
-        Outcome::Unrecast(_) => one_more(refused),
+    match job {
+        Job::Check => check_lines::tell(line, count, out, at),
+        Job::Readings => reading_lines::tell(line, count, out, at),
+        Job::Recast(edition) => recast_lines::tell(line, edition, count, out, at),
     }
 }
 
-// Takes a record: recasts it, puts its line and counts it.
-fn take_record(
-    line: &[u8],
-    edition: Edition,
-    records: u64,
-    refused: u64,
-    out: &mut [u8],
-    at: usize,
-) -> Told
-    requires { ⌜ at + 512 ≤ length (now out) ⌝ }
-    ensures { λ r. ⌜ Tells (ledger (Stage.Recasting edition) records refused) (now (line .entry)) at (now (out .entry)) (now (out .exit)) r ⌝ }
+// How many records are refused after one that is or is not.
+fn refused_after(is_refused: bool, refused: u64) -> u64
+    ensures { λ r. ⌜ r ≡ refusedAfter «is_refused» refused ⌝ }
 {
-    let mut buffer = [0u8; 159];
+    if is_refused {
+        one_more(refused)
+    } else {
+        refused
+    }
+}
+
+// Takes a record: says of it what the job has to say, and counts it.
+fn take_record(line: &[u8], job: Job, records: u64, refused: u64, out: &mut [u8], at: usize) -> Told
+    requires { ⌜ at + recordMost ≤ length (now out) ⌝ }
+    ensures { λ r. ⌜ Tells (ledger (Stage.Telling job) records refused) (now (line .entry)) at (now (out .entry)) (now (out .exit)) r ⌝ }
+{
     let count = one_more(records);
-    let outcome = recasting::recast(line, edition.number(), &mut buffer);
-    let end = report_lines::put_record(out, at, count, outcome);
-    let stage = Stage::Recasting(edition);
+    let said = tell(job, line, count, out, at);
+    let end = said.end;
+    let all = refused_after(said.refused, refused);
     let ledger = Ledger {
-        stage: stage,
+        stage: Stage::Telling(job),
         records: count,
-        refused: refused_after(outcome, refused),
+        refused: all,
     };
     Told {
         ledger: ledger,
@@ -170,19 +196,17 @@ fn take_record(
 
 // Takes a line, by the stage that it finds.
 fn take_line(line: &[u8], ledger: Ledger, out: &mut [u8], at: usize) -> Told
-    requires { ⌜ at + 512 ≤ length (now out) ⌝ }
+    requires { ⌜ at + recordMost ≤ length (now out) ⌝ }
     ensures { λ r. ⌜ Tells ledger (now (line .entry)) at (now (out .entry)) (now (out .exit)) r ⌝ }
 {
     let stage = ledger.stage;
     match stage {
-        Stage::Waiting => take_first(line, ledger.records, ledger.refused, out, at),
+        Stage::Asking => take_first(line, ledger.records, ledger.refused, out, at),
         Stage::Closed => Told {
             ledger: ledger,
             end: at,
         },
-        Stage::Recasting(edition) => {
-            take_record(line, edition, ledger.records, ledger.refused, out, at)
-        }
+        Stage::Telling(job) => take_record(line, job, ledger.records, ledger.refused, out, at),
     }
 }
 
@@ -210,7 +234,7 @@ fn take_ended(
     out: &mut [u8],
     at: usize,
 ) -> Told
-    requires { ⌜ ((count ≤ 160) × (length (now held) ≡ 160)) × (at + 512 ≤ length (now out)) ⌝ }
+    requires { ⌜ ((count ≤ 160) × (length (now held) ≡ 160)) × (at + recordMost ≤ length (now out)) ⌝ }
     ensures { λ r. ⌜ Tells ledger (take 160 (take count (now (held .entry)) ++ now (bytes .entry))) at (now (out .entry)) (now (out .exit)) r ⌝ }
 {
     if count == 0 {
@@ -222,21 +246,32 @@ fn take_ended(
 
 // Puts what is said last, by the stage.
 fn put_last(ledger: Ledger, out: &mut [u8], at: usize) -> usize
-    requires { ⌜ at + 512 ≤ length (now out) ⌝ }
+    requires { ⌜ at + lineMost ≤ length (now out) ⌝ }
     ensures { λ r. ⌜ Puts (lastOf ledger) at (now (out .entry)) (now (out .exit)) r ⌝ }
-    ensures { λ r. ⌜ r ≤ at + 512 ⌝ }
+    ensures { λ r. ⌜ r ≤ at + lineMost ⌝ }
 {
     let stage = ledger.stage;
     match stage {
-        Stage::Waiting => report_lines::put_not_held(out, at),
+        Stage::Asking => recast_lines::put_not_held(out, at),
         Stage::Closed => at,
-        Stage::Recasting(_) => report_lines::put_totals(out, at, ledger.records, ledger.refused),
+        Stage::Telling(_) => report_lines::put_totals(out, at, ledger.records, ledger.refused),
+    }
+}
+
+// Was anything refused? A first line that asks for no edition that is held is a refusal too.
+fn has_refused(ledger: Ledger) -> bool
+    ensures { λ r. ⌜ r ≡ hasRefused ledger ⌝ }
+{
+    let stage = ledger.stage;
+    match stage {
+        Stage::Asking => true,
+        Stage::Closed => true,
+        Stage::Telling(_) => 0 < ledger.refused,
     }
 }
 
 // Feeds a piece of the input to a run: line after line is taken, and what is said is written to the
-// front of `out`. It stops early only where fewer than 512 bytes of `out` are left, which a line may
-// need.
+// front of `out`. It stops early only where `out` has no room left for what may be said of a record.
 pub fn feed(run: Run, piece: &[u8], out: &mut [u8]) -> Fed
     ensures { λ r. ⌜ Feeds run (now (piece .entry)) (now (out .entry)) (now (out .exit)) r ⌝ }
 {
@@ -246,7 +281,7 @@ pub fn feed(run: Run, piece: &[u8], out: &mut [u8]) -> Fed
     let mut at = 0;
     let mut written = 0;
     while at < piece.len() {
-        if out.len() - written < 512 {
+        if out.len() - written < RECORD_MOST {
             break;
         }
         let end = line_end(piece, at);
@@ -275,20 +310,31 @@ pub fn feed(run: Run, piece: &[u8], out: &mut [u8]) -> Fed
 }
 
 // Finishes a run at the end of its input: tells the line that has no end, if there is one, and what is
-// said last. Where `out` has fewer than 1,024 bytes nothing is written.
-pub fn finish(run: Run, out: &mut [u8]) -> usize
+// said last. Where `out` has fewer than `CLOSING_MOST` bytes nothing is written.
+pub fn finish(run: Run, out: &mut [u8]) -> Finished
     ensures { λ r. ⌜ Finishes run (now (out .entry)) (now (out .exit)) r ⌝ }
 {
-    if out.len() < 1024 {
-        return 0;
+    if out.len() < CLOSING_MOST {
+        return Finished {
+            written: 0,
+            refused: true,
+        };
     }
     let held = run.held;
     let ledger = run.ledger;
     let count = least(run.length, 160);
     if count == 0 {
-        return put_last(ledger, out, 0);
+        let refused = has_refused(ledger);
+        return Finished {
+            written: put_last(ledger, out, 0),
+            refused: refused,
+        };
     }
     let told = take_line(&held[..count], ledger, out, 0);
     let last = told.ledger;
-    put_last(last, out, told.end)
+    let refused = has_refused(last);
+    Finished {
+        written: put_last(last, out, told.end),
+        refused: refused,
+    }
 }

@@ -1,6 +1,8 @@
 -- What the bytes of some columns are: blank, digits, the number that digits say, the part up to the last byte that is not blank.
 -- Assumes nothing.
 use Prim.Native.Nat.{ℕ, suc, _+_, _-_, _*_}
+use Prim.Native.Char.{code}
+use Prim.Native.String.{String, [] as empty, _∷_ as _then_}
 use mathlib.Core.List.{List, [], _∷_}
 use mathlib.Core.Bool.{Bool, true, _&&_, _||_, cond}
 use lib.Dec.{leb}
@@ -61,3 +63,8 @@ run p (b ∷ bs) = cond (p b) (suc (run p bs)) 0
 unfoldable pub toLastNonBlank : List ℕ → List ℕ
 toLastNonBlank [] = []
 toLastNonBlank (b ∷ bs) = cond (blank (b ∷ bs)) [] (b ∷ toLastNonBlank bs)
+
+-- the bytes of a quoted text
+unfoldable pub bytesOf : String → List ℕ
+bytesOf empty = []
+bytesOf (c then s) = code c ∷ bytesOf s

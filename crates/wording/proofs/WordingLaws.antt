@@ -12,7 +12,11 @@ use lib.ListN.{length, getD, drop, set, length-append, drop-of-length-le}
 use lib.Seq.{take-suc-set, drop-set-lt, drop-cons}
 use Rattle.numerals.proofs.PlacedLaws.{placed-none}
 use Rattle.numerals.specs.Spelling.{spelled, placed}
-use Rattle.wording.specs.Wording.{decimalFrom, decimal}
+use Rattle.text.specs.Bytes.{bytesOf}
+use Rattle.signs.specs.Signed.{negative}
+use lib.IntN.{ℤ, natAbs}
+use Rattle.wording.specs.Wording.{decimalFrom, decimal, numbered, signedDecimal}
+use Rattle.wording.specs.Puts.{Puts}
 
 -- one byte stored, and the others placed after it
 place-first : (at b : ℕ) (s before : List ℕ) → at < length before → placed (suc at) s (set before at b) ≡ placed at (b ∷ s) before
@@ -31,8 +35,8 @@ module _ (at : ℕ) (text : List ℕ) (i : ℕ) (out : List ℕ) where
       let next : at + (i + 1) ≡ suc (at + i) = omega arith in
       rw (next, add-one i, drop-cons text i 0 h) (place-first (at + i) (getD text i 0) (drop (suc i) text) out l)
 
-  pub text-end : length text ≤ i → out ≡ placed (at + i) (drop i text) out
-  text-end h = rw (drop-of-length-le text h) (sym (placed-none (at + i) out))
+  pub text-end : {before : List ℕ} → length text ≤ i → i ≤ length text → placed (at + i) (drop i text) out ≡ placed at text before → Puts text at before out (at + i)
+  text-end h l p = record { stands = sym (placed-none (at + i) out) ∙ (rw (drop-of-length-le text h) at p); ends = omega arith }
 
 -- a number of one digit, and one of more
 module _ (k n : ℕ) where
@@ -110,9 +114,14 @@ decimal-spelled n = spelled-from 20 n
 
 -- where as many digits are spelled as a number has, the number is put
 pub number-put : (at width n : ℕ) (before : List ℕ) {after : List ℕ} → width ≡ length (decimal n) → after ≡ placed at (spelled 10 48 width n) before →
-    (after ≡ placed at (decimal n) before) × (at + width ≡ at + length (decimal n))
-number-put at width n before e p =
-    (p ∙ ap (λ (t : List ℕ). placed at t before) (ap (λ (w : ℕ). spelled 10 48 w n) e ∙ sym (decimal-spelled n)), ap (λ (w : ℕ). at + w) e)
+    Puts (decimal n) at before after (at + width) × (at + width ≤ at + 20)
+number-put at width n before e p = (
+  record {
+    stands = p ∙ ap (λ (t : List ℕ). placed at t before) (ap (λ (w : ℕ). spelled 10 48 w n) e ∙ sym (decimal-spelled n));
+    ends = ap (λ (w : ℕ). at + w) e;
+  },
+  omega (arith, decimal-short n),
+)
 
 -- a number of one digit, and one of two
 module _ (n : ℕ) where
@@ -158,3 +167,13 @@ decimal-of-101 = refl
 decimal-of-most : decimal 18446744073709551615 ≡ 49 ∷ 56 ∷ 52 ∷ 52 ∷ 54 ∷ 55 ∷ 52 ∷ 52 ∷ 48 ∷ 55 ∷ 51 ∷ 55 ∷ 48 ∷ 57 ∷ 53 ∷ 53 ∷ 49 ∷ 54 ∷ 49 ∷ 53 ∷ []
 unfolding decimal decimalFrom
 decimal-of-most = refl
+
+-- a number below zero has its sign before its digits, and another has none
+module _ (n : ℤ) {size : ℕ} (e : size ≡ natAbs n) where
+  pub with-sign : negative n ≡ true → numbered (bytesOf "-") size ≡ signedDecimal n
+  unfolding signedDecimal
+  with-sign b = rw (e, b)
+
+  pub no-sign : negative n ≡ false → decimal size ≡ signedDecimal n
+  unfolding signedDecimal
+  no-sign b = rw (e, b)

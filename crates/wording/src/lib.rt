@@ -2,16 +2,18 @@
 //
 // Each function answers the place right after what it put, so that a report is put together by handing
 // each answer to the next call.
-ghost use mathlib.Core.Path.{_≡_};
 ghost use Prim.Native.Nat.{_+_, _≤_};
+ghost use mathlib.Core.List.{_++_};
+ghost use mathlib.Core.Path.{_≡_};
 ghost use lib.ListN.{length};
 ghost use Rattle.numerals.specs.Spelling.{spelled, placed};
-ghost use Rattle.wording.specs.Wording.{decimal};
+ghost use Rattle.wording.specs.Wording.{decimal, signedDecimal, numbered, lineEnd};
+ghost use Rattle.wording.specs.Puts.{Puts};
 
 // Puts a text into the buffer from `at` on, and answers the place after it.
 pub fn put_text(out: &mut [u8], at: usize, text: &[u8]) -> usize
     requires { ⌜ at + length (now text) ≤ length (now out) ⌝ }
-    ensures { λ r. ⌜ (now (out .exit) ≡ placed at (now (text .entry)) (now (out .entry))) × (r ≡ at + length (now (text .entry))) ⌝ }
+    ensures { λ r. ⌜ Puts (now (text .entry)) at (now (out .entry)) (now (out .exit)) r ⌝ }
 {
     let mut i = 0;
     while i < text.len() {
@@ -53,7 +55,8 @@ fn spell(out: &mut [u8], at: usize, width: usize, n: u64)
 // a report have one digit or two: these are put without counting digits first.
 pub fn put_number(out: &mut [u8], at: usize, n: u64) -> usize
     requires { ⌜ at + 20 ≤ length (now out) ⌝ }
-    ensures { λ r. ⌜ (now (out .exit) ≡ placed at (decimal n) (now (out .entry))) × (r ≡ at + length (decimal n)) ⌝ }
+    ensures { λ r. ⌜ Puts (decimal n) at (now (out .entry)) (now (out .exit)) r ⌝ }
+    ensures { λ r. ⌜ r ≤ at + 20 ⌝ }
 {
     if n < 10 {
         spell(out, at, 1, n);
@@ -66,4 +69,47 @@ pub fn put_number(out: &mut [u8], at: usize, n: u64) -> usize
     let width = places(n);
     spell(out, at, width, n);
     at + width
+}
+
+// Puts a word and a number after it.
+pub fn put_numbered(out: &mut [u8], at: usize, word: &[u8], n: u64) -> usize
+    requires { ⌜ at + length (now word) + 20 ≤ length (now out) ⌝ }
+    ensures { λ r. ⌜ Puts (numbered (now (word .entry)) n) at (now (out .entry)) (now (out .exit)) r ⌝ }
+    ensures { λ r. ⌜ r ≤ at + length (now (word .entry)) + 20 ⌝ }
+{
+    let after = put_text(out, at, word);
+    put_number(out, after, n)
+}
+
+// Puts a number that may be below zero, with its sign before it.
+pub fn put_signed(out: &mut [u8], at: usize, n: i64) -> usize
+    requires { ⌜ at + 21 ≤ length (now out) ⌝ }
+    ensures { λ r. ⌜ Puts (signedDecimal n) at (now (out .entry)) (now (out .exit)) r ⌝ }
+    ensures { λ r. ⌜ r ≤ at + 21 ⌝ }
+{
+    let size = signs::magnitude(n);
+    if signs::is_negative(n) {
+        return put_numbered(out, at, b"-", size);
+    }
+    put_number(out, at, size)
+}
+
+// Puts a line of a record: its count, two words with a number after each, and the line's end.
+pub fn put_line(
+    out: &mut [u8],
+    at: usize,
+    count: u64,
+    first: &[u8],
+    n: u64,
+    second: &[u8],
+    m: u64,
+) -> usize
+    requires { ⌜ at + length (now first) + length (now second) + 61 ≤ length (now out) ⌝ }
+    ensures { λ r. ⌜ Puts (decimal count ++ numbered (now (first .entry)) n ++ numbered (now (second .entry)) m ++ lineEnd) at (now (out .entry)) (now (out .exit)) r ⌝ }
+    ensures { λ r. ⌜ r ≤ at + length (now (first .entry)) + length (now (second .entry)) + 61 ⌝ }
+{
+    let a = put_number(out, at, count);
+    let b = put_numbered(out, a, first, n);
+    let c = put_numbered(out, b, second, m);
+    put_text(out, c, b"\n")
 }

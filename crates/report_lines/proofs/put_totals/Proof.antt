@@ -1,6 +1,8 @@
 -- `report_lines::put_totals` meets its contract. Assumes nothing.
-use Rattle.report_lines.proofs.PutLaws.{also, puts}
 use Rattle.report_lines.specs.Sentences.{totals}
+use Rattle.text.specs.Bytes.{bytesOf}
+use Rattle.wording.proofs.PutLaws.{also}
+use Rattle.wording.specs.Wording.{lineEnd}
 use native.Mathlib.Omega.{arith}
 use borrow.Author.Needs.{needs}
 use Rattle.report_lines.proofs.put_totals.Statement.{statement}
@@ -28,12 +30,12 @@ same-length : tie.Need-same-length
 same-length c = search needs
 
 returns : tie.Need-returns
-unfolding totals
+unfolding totals lineEnd bytesOf
 returns c =
     let all = c .before .before .before .before .before .before .before .before .before .before .before .before .put-numbered .ensures .0 in
     let some = c .before .before .before .before .before .before .before .put-numbered2 .ensures .0 in
-    let end = puts (c .before .before .put-text .ensures) in
-    (also (also all some (omega arith)) end (omega arith), omega arith)
+    let end = c .before .before .put-text .ensures in
+    (also (also all some (omega arith)) end (omega arith), omega (arith, end .ends))
 
 pub put-totals-spec : {M : Type 1} → statement M
 put-totals-spec =

@@ -24,6 +24,18 @@ same-length c = search needs
 returns : tie.Need-returns
 returns c = search needs
 
+same-length-2 : tie.Need-same-length-2
+same-length-2 c = search needs
+
+returns-2 : tie.Need-returns-2
+returns-2 c = search needs
+
+same-length-3 : tie.Need-same-length-3
+same-length-3 c = search needs
+
+returns-3 : tie.Need-returns-3
+returns-3 c = search needs
+
 pub finish-spec : {M : Type 1} → statement M
 finish-spec =
     tie.close
@@ -33,4 +45,8 @@ finish-spec =
     slice-aggregate-write-all
     write-all-requires
     same-length
-    returns)
+    returns
+    same-length-2
+    returns-2
+    same-length-3
+    returns-3)

@@ -1,18 +1,21 @@
 -- `reporting::finish` meets its contract. Assumes nothing.
 use Rattle.reporting.proofs.FinishLaws.{finish-line, finish-none, finish-short}
-use borrow.Author.Needs.{needs}
 use lib.ListN.{length}
 use lib.Seq.{length-take-le}
 use mathlib.Core.Path.{_≡_, sym}
 use native.Mathlib.Omega.{arith}
+use borrow.Author.Needs.{needs}
 use Rattle.reporting.proofs.finish.Statement.{statement}
 use Rattle.reporting.proofs.finish.Tie as tie
 
 returns : tie.Need-returns
-returns c = finish-short _ _ (c .if1 .taken)
+returns c = finish-short _ _ _ (c .if1 .taken)
 
 least-requires : tie.Need-least-requires
 least-requires c κs = search needs
+
+has-refused-requires : tie.Need-has-refused-requires
+has-refused-requires c κs = search needs
 
 put-last-requires : tie.Need-put-last-requires
 put-last-requires c κs = search needs
@@ -21,7 +24,7 @@ same-length : tie.Need-same-length
 same-length c = search needs
 
 returns-2 : tie.Need-returns-2
-returns-2 c = finish-none (c .before .before .before .before .before .before .before .before .before .before .args .run) (search needs) _ (c .before .before .before .before .before .least .ensures) (c .before .before .before .before .before .before .before .before .if1 .left) (c .before .before .before .before .if2 .taken) (c .before .before .put-last .ensures .0) (omega arith)
+returns-2 c = finish-none (c .before .before .before .before .before .before .before .before .before .before .before .args .run) (search needs) _ (c .before .before .before .before .before .before .least .ensures) (c .before .before .before .before .before .before .before .before .before .if1 .left) (c .before .before .before .before .before .if2 .taken) (c .before .before .put-last .ensures .0) (c .before .before .before .before .has-refused .ensures) (omega arith)
 
 array-share-prefix-held : tie.Need-array-share-prefix-held
 array-share-prefix-held c = let long : length (c .before .before .before .before .before .before .args .run .held) ≡ 160 = search needs in omega (arith, c .before .least .ensures)
@@ -32,6 +35,9 @@ slice-aggregate-take-line c = let long : length (c .before .before .before .befo
 take-line-requires : tie.Need-take-line-requires
 take-line-requires c κs = search needs
 
+has-refused-requires-2 : tie.Need-has-refused-requires-2
+has-refused-requires-2 c κs = search needs
+
 put-last-requires-2 : tie.Need-put-last-requires-2
 put-last-requires-2 c κs = search needs
 
@@ -39,7 +45,7 @@ same-length-2 : tie.Need-same-length-2
 same-length-2 c = search needs
 
 returns-3 : tie.Need-returns-3
-returns-3 c = finish-line (c .before .before .before .before .before .before .before .before .before .before .before .before .before .before .before .before .args .run) (search needs) _ (c .before .before .before .before .before .before .before .before .before .before .before .least .ensures) (c .before .before .before .before .before .before .before .before .before .before .before .before .before .before .if1 .left) (c .before .before .before .before .before .before .before .before .before .before .if2 .left) (c .before .before .before .before .before .before .before .take-line .ensures) (c .before .before .put-last2 .ensures .0) (omega (arith, c .before .before .before .before .before .before .before .take-line .ensures .short))
+returns-3 c = finish-line (c .before .before .before .before .before .before .before .before .before .before .before .before .before .before .before .before .before .args .run) (search needs) _ (c .before .before .before .before .before .before .before .before .before .before .before .before .least .ensures) (c .before .before .before .before .before .before .before .before .before .before .before .before .before .before .before .if1 .left) (c .before .before .before .before .before .before .before .before .before .before .before .if2 .left) (c .before .before .before .before .before .before .before .before .take-line .ensures) (c .before .before .put-last2 .ensures .0) (c .before .before .before .before .has-refused2 .ensures) (omega (arith, c .before .before .before .before .before .before .before .before .take-line .ensures .short))
 
 pub finish-spec : {M : Type 1} → statement M
 finish-spec =
@@ -47,12 +53,14 @@ finish-spec =
     (tie.spec
     returns
     least-requires
+    has-refused-requires
     put-last-requires
     same-length
     returns-2
     array-share-prefix-held
     slice-aggregate-take-line
     take-line-requires
+    has-refused-requires-2
     put-last-requires-2
     same-length-2
     returns-3)

@@ -1,7 +1,7 @@
 -- `reporting::put_last` meets its contract. Assumes nothing.
 use Rattle.reporting.proofs.TellLaws.{stage-last}
-use Rattle.report_lines.proofs.PutLaws.{nothing}
-use Rattle.reporting.specs.declared.Stage.the-variants.{Closed, Recasting, Waiting}
+use Rattle.wording.proofs.PutLaws.{nothing}
+use Rattle.reporting.specs.declared.Stage.the-variants.{Asking, Closed, Telling}
 use native.Mathlib.Omega.{arith}
 use borrow.Author.Needs.{needs}
 use Rattle.reporting.proofs.put_last.Statement.{statement}
@@ -26,7 +26,7 @@ same-length : tie.Need-same-length
 same-length c = search needs
 
 returns : tie.Need-returns
-returns c = (stage-last _ Waiting (c .before .before .before .before .enum-told .given .1) (c .before .before .put-not-held .ensures .0), c .before .before .put-not-held .ensures .1)
+returns c = (stage-last _ Asking (c .before .before .before .before .enum-told .given .1) (c .before .before .put-not-held .ensures .0), c .before .before .put-not-held .ensures .1)
 
 returns-2 : tie.Need-returns-2
 returns-2 c = (stage-last _ Closed (c .enum-told2 .given .1) (nothing _ _), omega arith)
@@ -35,7 +35,7 @@ same-length-2 : tie.Need-same-length-2
 same-length-2 c = search needs
 
 returns-3 : tie.Need-returns-3
-returns-3 c = (stage-last _ (Recasting _) (c .before .before .before .before .enum-told3 .given .1) (c .before .before .put-totals .ensures .0), c .before .before .put-totals .ensures .1)
+returns-3 c = (stage-last _ (Telling _) (c .before .before .before .before .enum-told3 .given .1) (c .before .before .put-totals .ensures .0), c .before .before .put-totals .ensures .1)
 
 pub put-last-spec : {M : Type 1} → statement M
 put-last-spec =

@@ -1,6 +1,6 @@
 -- `reporting::take_line` meets its contract. Assumes nothing.
 use Rattle.reporting.proofs.TellLaws.{closed-tells, stage-tells}
-use Rattle.reporting.specs.declared.Stage.the-variants.{Recasting, Waiting}
+use Rattle.reporting.specs.declared.Stage.the-variants.{Asking, Telling}
 use borrow.Author.Needs.{needs}
 use Rattle.reporting.proofs.take_line.Statement.{statement}
 use Rattle.reporting.proofs.take_line.Tie as tie
@@ -24,7 +24,7 @@ same-length : tie.Need-same-length
 same-length c = search needs
 
 returns : tie.Need-returns
-returns c = stage-tells _ Waiting (c .before .before .before .before .enum-told .given .1) (c .before .before .take-first .ensures)
+returns c = stage-tells _ Asking (c .before .before .before .before .enum-told .given .1) (c .before .before .take-first .ensures)
 
 returns-2 : tie.Need-returns-2
 returns-2 c = closed-tells _ _ _ _ (c .enum-told2 .given .1)
@@ -33,7 +33,7 @@ same-length-2 : tie.Need-same-length-2
 same-length-2 c = search needs
 
 returns-3 : tie.Need-returns-3
-returns-3 c = stage-tells _ (Recasting _) (c .before .before .before .before .before .stage .given .1) (c .before .before .take-record .ensures)
+returns-3 c = stage-tells _ (Telling _) (c .before .before .before .before .before .stage .given .1) (c .before .before .take-record .ensures)
 
 pub take-line-spec : {M : Type 1} → statement M
 take-line-spec =

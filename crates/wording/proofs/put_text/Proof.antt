@@ -46,7 +46,7 @@ same-length : tie.Need-same-length Inv-loop μ-loop
 same-length c = c .before .loop .inv .0
 
 returns : tie.Need-returns Inv-loop μ-loop
-returns c = (text-end (c .before .before .args .at) _ (c .before .loop .i) (c .before .loop .out) (c .loop-test .left) ∙ c .before .loop .inv .1 .1, omega arith)
+returns c = text-end (c .before .before .args .at) _ (c .before .loop .i) (c .before .loop .out) (c .loop-test .left) (c .before .loop .inv .1 .0) (c .before .loop .inv .1 .1)
 
 pub put-text-spec : {M : Type 1} → statement M
 put-text-spec =

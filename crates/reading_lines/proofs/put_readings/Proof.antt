@@ -1,0 +1,56 @@
+-- `reading_lines::put_readings` meets its contract. Assumes nothing.
+use Prim.Native.Nat.{_-_}
+use Rattle.reading_lines.proofs.LineLaws.{Lines, lines-all, lines-more, lines-none}
+use native.Mathlib.Omega.{arith}
+use borrow.Author.Needs.{needs}
+use Rattle.reading_lines.proofs.put_readings.Statement.{statement}
+use Rattle.reading_lines.proofs.put_readings.Tie as tie
+
+abbrev Inv-loop : tie.InvT-loop
+Inv-loop out₀ at count entries end₀ k₀ out end k = Lines count entries at out₀ k end out
+
+abbrev μ-loop : tie.MeasureT-loop
+μ-loop out₀ at count entries end₀ k₀ out end k = 101 - k
+
+loop-holds : tie.Need-loop-holds Inv-loop μ-loop
+loop-holds c = lines-none _ _ _ _
+
+mul-entry : tie.Need-mul-entry Inv-loop μ-loop
+mul-entry c = search needs
+
+array-copy-out-entry : tie.Need-array-copy-out-entry Inv-loop μ-loop
+array-copy-out-entry c = search needs
+
+add-k : tie.Need-add-k Inv-loop μ-loop
+add-k c = search needs
+
+put-reading-requires : tie.Need-put-reading-requires Inv-loop μ-loop
+put-reading-requires c κs = omega (arith, c .before .before .before .loop .inv .short, c .before .before .before .loop .inv .long, c .before .before .loop-test .taken)
+
+loop-less : tie.Need-loop-less Inv-loop μ-loop
+loop-less c = omega (arith, c .before .before .before .before .before .loop-test .taken)
+
+loop-again : tie.Need-loop-again Inv-loop μ-loop
+loop-again c = lines-more (search needs) (c .before .before .before .before .before .before .loop .inv) (c .before .before .before .before .before .loop-test .taken) (c .before .before .before .before .before .before .before .before .pre) (search needs) (c .before .before .put-reading .ensures .0) (c .before .before .put-reading .ensures .1)
+
+same-length : tie.Need-same-length Inv-loop μ-loop
+same-length c = c .before .loop .inv .long
+
+returns : tie.Need-returns Inv-loop μ-loop
+returns c = lines-all (search needs) (c .before .loop .inv) (c .loop-test .left)
+
+pub put-readings-spec : {M : Type 1} → statement M
+put-readings-spec =
+    tie.close
+    (tie.spec
+    Inv-loop
+    μ-loop
+    loop-holds
+    mul-entry
+    array-copy-out-entry
+    add-k
+    put-reading-requires
+    loop-less
+    loop-again
+    same-length
+    returns)

@@ -1,0 +1,53 @@
+-- `reading_lines::put_record` meets its contract. Assumes nothing.
+use Rattle.layout.specs.Editions.{lengthOf}
+use Rattle.reading_lines.specs.Sentences.{readText}
+use Rattle.wording.proofs.PutLaws.{also}
+use mathlib.Core.Path.{_∙_, _≡_, ap}
+use native.Mathlib.Omega.{arith}
+use borrow.Author.Needs.{needs}
+use Rattle.reading_lines.proofs.put_record.Statement.{statement}
+use Rattle.reading_lines.proofs.put_record.Tie as tie
+
+call-sign-after-requires : tie.Need-call-sign-after-requires
+call-sign-after-requires c κs = λ ed a. let same : c .before .before .args .edition ≡ ed = cc in c .before .before .pre .1 ∙ ap lengthOf same
+
+is-written-back-requires : tie.Need-is-written-back-requires
+is-written-back-requires c κs = search needs
+
+put-accepted-requires : tie.Need-put-accepted-requires
+put-accepted-requires c κs = search needs
+
+put-readings-requires : tie.Need-put-readings-requires
+put-readings-requires c κs = search needs
+
+put-call-sign-requires : tie.Need-put-call-sign-requires
+put-call-sign-requires c κs = search needs
+
+put-written-requires : tie.Need-put-written-requires
+put-written-requires c κs = search needs
+
+same-length : tie.Need-same-length
+same-length c = search needs
+
+returns : tie.Need-returns
+unfolding readText
+returns c =
+    let accepted = c .before .before .before .before .before .before .before .before .before .before .before .before .before .before .put-accepted .ensures in
+    let lines = c .before .before .before .before .before .before .before .before .before .before .put-readings .ensures in
+    let sign = c .before .before .before .before .before .before .put-call-sign .ensures in
+    let written = c .before .before .put-written .ensures in
+    let all = also (also (also (accepted .0) (lines .0) (omega (arith, accepted .1, lines .1))) (sign .0) (omega (arith, accepted .1, lines .1, sign .1))) (written .0) (omega (arith, accepted .1, lines .1, sign .1, written .1)) in
+    (rw (← c .before .before .before .before .before .before .before .before .before .before .before .before .before .before .before .before .before .call-sign-after .ensures .0, ← c .before .before .before .before .before .before .before .before .before .before .before .before .before .before .before .before .is-written-back .ensures) all, omega (arith, accepted .1, lines .1, sign .1, written .1))
+
+pub put-record-spec : {M : Type 1} → statement M
+put-record-spec =
+    tie.close
+    (tie.spec
+    call-sign-after-requires
+    is-written-back-requires
+    put-accepted-requires
+    put-readings-requires
+    put-call-sign-requires
+    put-written-requires
+    same-length
+    returns)

@@ -1,0 +1,80 @@
+-- What the program readings says of a record: what each element reads as, and whether writing the readings gives the record back. Assumes nothing.
+use Prim.Native.Nat.{ℕ, _+_}
+use mathlib.Core.Bool.{Bool, true, false, cond, _&&_}
+use mathlib.Core.List.{List, [], _∷_, _++_}
+use lib.Dec.{eqb}
+use Rattle.text.specs.Bytes.{bytesOf}
+use Rattle.layout.specs.declared.Edition.{Edition}
+use Rattle.layout.specs.Editions.{editionNumber}
+use Rattle.places.specs.declared.Place.{Place}
+use Rattle.checking.specs.declared.Answer.{Answer}
+use Rattle.checking.specs.declared.Answer.the-variants.{Accepted, Refused}
+use Rattle.checking.specs.Check.{callSignOf}
+use Rattle.reading.specs.declared.Kind.{Kind}
+use Rattle.reading.specs.declared.Kind.the-variants.{Measured, Computed, IcedMeasured, IcedComputed}
+use Rattle.reading.specs.declared.Entry.{Entry}
+use Rattle.reading.specs.declared.Reading.{Reading}
+use Rattle.reading.specs.declared.Reading.the-variants.{Missing, Code, Text, Amount, At}
+use Rattle.reading.specs.declared.Readings.{Readings}
+use Rattle.reading.specs.Answers.{readOf, readings}
+use Rattle.spelling.specs.Spelled.{recordOf}
+use Rattle.writing.specs.declared.Outcome.{Outcome}
+use Rattle.writing.specs.declared.Outcome.the-variants.{Done, Unwritten}
+use Rattle.writing.specs.Written.{written}
+use Rattle.wording.specs.Wording.{decimal, signedDecimal, numbered, lineEnd}
+use Rattle.report_lines.specs.Sentences.{refusedLine, acceptedLine, callSignLine, isRefused}
+
+-- how an amount was come by
+unfoldable pub kindWords : Kind → List ℕ
+kindWords Measured = bytesOf " measured"
+kindWords Computed = bytesOf " computed"
+kindWords IcedMeasured = bytesOf " iced measured"
+kindWords IcedComputed = bytesOf " iced computed"
+
+-- the line of element e: the count of the record, the element, and what it reads as; none where it is missing
+abbrev pub elementOf : ℕ → ℕ → List ℕ
+elementOf n e = decimal n ++ numbered (bytesOf " ") e
+
+unfoldable pub readingLine : ℕ → ℕ → Reading → List ℕ
+readingLine n e Missing = []
+readingLine n e (Code v) = elementOf n e ++ numbered (bytesOf " code ") v ++ lineEnd
+readingLine n e (Text v) = elementOf n e ++ numbered (bytesOf " text ") v ++ lineEnd
+readingLine n e (Amount a kind) = elementOf n e ++ bytesOf " amount " ++ signedDecimal a ++ kindWords kind ++ lineEnd
+readingLine n e (At place) =
+    elementOf n e ++ bytesOf " place " ++ signedDecimal (place .latitude) ++ numbered (bytesOf " ") (place .longitude) ++ numbered (bytesOf " ") (place .digit) ++ lineEnd
+
+-- the lines of elements, from e on
+unfoldable pub readingLines : ℕ → ℕ → List Reading → List ℕ
+readingLines n e [] = []
+readingLines n e (r ∷ rs) = readingLine n e r ++ readingLines n (e + 1) rs
+
+-- two texts are the same
+unfoldable pub sameText : List ℕ → List ℕ → Bool
+sameText [] [] = true
+sameText [] (b ∷ ys) = false
+sameText (a ∷ xs) [] = false
+sameText (a ∷ xs) (b ∷ ys) = eqb a b && sameText xs ys
+
+-- writing the readings, to the record's own edition, gives the record
+unfoldable pub givesBack : Outcome → List ℕ → List ℕ → Bool
+givesBack Done text line = sameText text line
+givesBack (Unwritten r) text line = false
+
+abbrev pub writtenBack : Edition → List Reading → List ℕ → Bool
+writtenBack edition rs line = givesBack (written rs (editionNumber edition) 159) (recordOf edition rs) line
+
+unfoldable pub writtenLine : ℕ → Bool → List ℕ
+writtenLine n same = decimal n ++ cond same (bytesOf " written same\n") (bytesOf " written other\n")
+
+-- an accepted record: its edition, its readings, its call sign where it has one, and whether they give it back; a refused one: number and place
+unfoldable pub readText : ℕ → List ℕ → Answer → List Reading → List ℕ
+readText n line (Accepted edition) rs =
+    acceptedLine n edition ++ readingLines n 1 rs ++ callSignLine n (callSignOf (Accepted edition) line) ++ writtenLine n (writtenBack edition rs line)
+readText n line (Refused r) rs = refusedLine n r
+
+-- what is said of a record with its count, from the one call that reads it, and whether it is refused
+abbrev pub readSaid : ℕ → List ℕ → List ℕ
+readSaid n line = readText n line (readOf line .answer) (readings (readOf line .entries))
+
+abbrev pub readRefused : List ℕ → Bool
+readRefused line = isRefused (readOf line .answer)

@@ -1,0 +1,3 @@
+-- The laws of the lines of the recast report.
+pub mod LostLaws
+pub mod LongLaws

@@ -1,5 +1,0 @@
-// The recast report, run on 440 records to edition 3: what it must write comes from an implementation
-// that shares no line with this one.
-fn main() {
-    report_run::run();
-}

@@ -55,6 +55,18 @@ static void arguments(void)
     test(IMMT_LOST(low | 1, high & 1, 1 + 0), "an argument is an expression");
 }
 
+/* A number that the preprocessor can compare. */
+#if IMMT_VERSION < 10000
+#error "the version is older than the first"
+#endif
+
+static void version(void)
+{
+    test(IMMT_VERSION / 10000 == IMMT_VERSION_MAJOR, "the major number");
+    test(IMMT_VERSION / 100 % 100 == IMMT_VERSION_MINOR, "the minor number");
+    test(IMMT_VERSION % 100 == IMMT_VERSION_PATCH, "the patch number");
+}
+
 static void one_call(void)
 {
     uint64_t place = 7, low = 7, high = 7;
@@ -71,6 +83,7 @@ int main(void)
         one_element(element);
     many_elements();
     arguments();
+    version();
     one_call();
     printf("tests %u failed %u\n", tried, failures);
     return failures == 0 ? 0 : 1;

@@ -2,7 +2,36 @@
  * immt.h - checks and recasts ships' weather records in the IMMT tape format, editions 1, 3 and 4.
  *
  * A record is a line of fixed columns without its line end: 131 bytes in edition 1, 159 in editions 3 and 4. Columns and elements
- * count from 1. Link with libdesk.a, which `rt staticlib desk` writes for x86-64; it calls nothing but memcpy and memset.
+ * count from 1. Link with libdesk.a, which `rt staticlib desk` writes for x86-64; it calls nothing but memcpy and memset. `host/cc` does both.
+ *
+ * A whole program, which says of each line of its input whether it is a record and, if not, why not (host/test builds and runs it from here):
+ *
+ *     #include <stdio.h>
+ *     #include <string.h>
+ *     #include "immt.h"
+ *
+ *     int main(void)
+ *     {
+ *         char line[IMMT_LENGTH_MOST + 3];
+ *         while (fgets(line, sizeof line, stdin) != NULL) {
+ *             size_t length = strlen(line);
+ *             uint64_t place, number;
+ *             if (length > 0 && line[length - 1] == '\n')
+ *                 length--;
+ *             if (length > 0 && line[length - 1] == '\r')
+ *                 length--;
+ *             number = immt_check((const uint8_t *)line, length, &place);
+ *             if (number == IMMT_OK)
+ *                 puts("accepted");
+ *             else
+ *                 printf("refused %u at %u\n", (unsigned)number, (unsigned)place);
+ *         }
+ *         return ferror(stdin) || fflush(stdout) != 0 ? 2 : 0;
+ *     }
+ *
+ * The line's end is no part of a record, neither "\n" nor a '\r' before it: a record that is handed over with either is too long, and refused
+ * 1. What fgets cannot do: a line longer than the array comes in pieces, each judged by itself, and one with a byte 0 ends there. host/host.c
+ * shows how lines of any length and any bytes are read.
  *
  * Both calls return 0 (IMMT_OK) or the number of the refusal, and are proved to give exactly the answers below for every record,
  * edition number and room. What the proof cannot see is what a pointer points to, so that is what the caller answers for:
@@ -26,6 +55,16 @@
 extern "C" {
 #endif
 
+/*
+ * The version of this header and of the calls behind it: major * 10000 + minor * 100 + patch. The major number goes up where a program that
+ * was right may have to be changed: a call, a number or the meaning of an answer is another or gone. The minor number goes up where
+ * something is added, and the patch where neither is so. A record that is answered otherwise than before is a change of meaning.
+ */
+#define IMMT_VERSION_MAJOR 1
+#define IMMT_VERSION_MINOR 0
+#define IMMT_VERSION_PATCH 0
+#define IMMT_VERSION (IMMT_VERSION_MAJOR * 10000 + IMMT_VERSION_MINOR * 100 + IMMT_VERSION_PATCH)
+
 /* The bytes of a record of each edition, and of the longest: a buffer of IMMT_LENGTH_MOST has room for every recast. */
 #define IMMT_LENGTH_1 131
 #define IMMT_LENGTH_3 159
@@ -39,7 +78,8 @@ extern "C" {
 
 /*
  * What the calls return, and the place that goes with it. They ask in this order, and the first that fails is the answer, at its
- * lowest place. A check asks 1 to 7, a recast 1 to 9.
+ * lowest place. A check asks 1 to 7, a recast 1 to 9. What a place counts goes by the number: columns for 2, 3 and 4, elements for 6, ties
+ * for 7. For every other number it is 0.
  */
 enum immt_refusal {
     IMMT_OK = 0,                     /* accepted, or recast                               place 0 */
@@ -58,7 +98,8 @@ enum immt_refusal {
  * Checks a record.
  *
  *   record, length   the record, any bytes and any number of them
- *   place            set at every call, to the place of the refusal, 0 where the record is accepted
+ *   place            set at every call, to the place of the refusal, 0 where the record is accepted: by the number that is returned it is
+ *                    a column (2, 3, 4), an element (6), a tie (7), and else 0
  *
  * Returns IMMT_OK where the record is accepted, else a number from 1 to 7. Writes nothing but the place.
  */

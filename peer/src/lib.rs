@@ -47,13 +47,16 @@ impl Answer {
     }
 }
 
+/// Checks a record: either the refusal, 1 to 7, or its edition.
+#[inline]
+pub fn edition_of(record: &[u8]) -> Result<Edition, Answer> {
+    quick::accepted(record).ok_or_else(|| plain::check(record))
+}
+
 /// Checks a record: refusals 1 to 7.
 #[inline]
 pub fn check(record: &[u8]) -> Answer {
-    match quick::accepted(record) {
-        Some(_) => Answer::done(),
-        None => plain::check(record),
-    }
+    edition_of(record).map_or_else(|refusal| refusal, |_| Answer::done())
 }
 
 /// What an accepted record says: its edition, and the reading of every element, missing where the edition lacks it.
@@ -67,10 +70,7 @@ pub struct Readings {
 /// Checks a record and reads it: either the refusal, 1 to 7, or all the readings.
 #[inline]
 pub fn read(record: &[u8]) -> Result<Readings, Answer> {
-    match quick::accepted(record) {
-        Some(edition) => Ok(Readings { edition, all: reading::readings(edition, record) }),
-        None => Err(plain::check(record)),
-    }
+    edition_of(record).map(|edition| Readings { edition, all: reading::readings(edition, record) })
 }
 
 /// The call sign as the part of the caller's own record from column 72 to its last character that is not blank;
@@ -79,7 +79,13 @@ pub fn show_call_sign(record: &[u8]) -> &[u8] {
     if quick::accepted(record).is_none() {
         return &[];
     }
-    layout::text(record, 42).trim_ascii_end()
+    call_sign(record)
+}
+
+/// The call sign of an accepted record.
+#[inline]
+pub(crate) fn call_sign(accepted: &[u8]) -> &[u8] {
+    layout::text(accepted, 42).trim_ascii_end()
 }
 
 pub use recasting::recast;

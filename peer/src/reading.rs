@@ -138,9 +138,9 @@ static ONE_COLUMN: [Reading; 256] = {
 };
 
 /// The elements of two, three and four columns that read as a code, their digits as they stand.
-const TWO_COLUMNS: [usize; 18] = [3, 4, 5, 11, 13, 15, 21, 32, 33, 34, 35, 36, 38, 56, 57, 58, 89, 90];
-const THREE_COLUMNS: [usize; 6] = [48, 53, 87, 88, 92, 93];
-const FOUR_COLUMNS: [usize; 1] = [2];
+pub(crate) const TWO_COLUMNS: [usize; 18] = [3, 4, 5, 11, 13, 15, 21, 32, 33, 34, 35, 36, 38, 56, 57, 58, 89, 90];
+pub(crate) const THREE_COLUMNS: [usize; 6] = [48, 53, 87, 88, 92, 93];
+pub(crate) const FOUR_COLUMNS: [usize; 1] = [2];
 
 /// Reads some of these elements, all of the same width, out of an accepted record.
 #[inline(always)]

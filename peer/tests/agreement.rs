@@ -7,7 +7,8 @@ use peer::reading::reading as plain_reading;
 use peer::recasting::plain_recast;
 use peer::returns::{hold_answer, Findings, EDGES};
 use peer::trial::{self, Chance, Family, Limits};
-use peer::{check, quick, read, recast, write, Answer, Place, Reading};
+use peer::writing::plain_write;
+use peer::{check, quick, read, recast, write, Answer, Place, Reading, ELEMENTS};
 
 fn agree(record: &[u8]) {
     let answer = plain::check(record);
@@ -441,6 +442,50 @@ fn what_is_written_reads_as_what_was_given() {
         assert!(never == (count == 0), "tie {tie}: {count}");
     }
     assert!(ties[TIES] > 50, "{ties:?}");
+}
+
+#[test]
+fn writes_agree() {
+    let limits = Limits::new();
+    let mut numbers = [0; 10];
+    for (index, (_, family)) in Family::ALL.into_iter().enumerate() {
+        let mut chance = Chance::new(900 + index as u64);
+        for _ in 0..40_000 {
+            if let Call::Write(edition, room, readings) = trial::call(&mut chance, &limits, family) {
+                let (mut quick, mut plain) = ([0; 4096], [0; 4096]);
+                let answer = write(edition, &readings, &mut quick[..room]);
+                assert_eq!(answer, plain_write(edition, &readings, &mut plain[..room]));
+                assert!(quick == plain);
+                numbers[answer.number as usize] += 1;
+            }
+        }
+    }
+    for number in [0, 6, 7, 8, 9] {
+        assert!(numbers[number] > 200, "{numbers:?}");
+    }
+}
+
+/// One reading of an accepted record becomes another: every code and text up to some above what the columns hold.
+#[test]
+fn writes_agree_on_every_small_reading_of_every_element() {
+    let limits = Limits::new();
+    let mut chance = Chance::new(31);
+    for edition in Edition::ALL {
+        let record = trial::typical(&mut chance, &limits, edition, 6);
+        let all = read(&record).unwrap().all;
+        for element in 1..=ELEMENTS {
+            for value in (0..1100).chain([9_999, 10_000, 65_535, u64::MAX]) {
+                for reading in [Reading::Missing, Reading::Code(value), Reading::Text(value)] {
+                    let mut readings = all;
+                    readings[element - 1] = reading;
+                    let (mut quick, mut plain) = ([0; LONGEST], [0; LONGEST]);
+                    let answer = write(edition.number(), &readings, &mut quick);
+                    assert_eq!(answer, plain_write(edition.number(), &readings, &mut plain), "{element} {reading:?}");
+                    assert_eq!(quick, plain, "{element} {reading:?}");
+                }
+            }
+        }
+    }
 }
 
 #[test]

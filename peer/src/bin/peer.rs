@@ -1,7 +1,8 @@
 //! The sub-commands that comparison scripts use:
 //!
-//!     peer report < input                  the recast report
+//!     peer check-report < input            what the check says of every record
 //!     peer readings < input                what every element of every record reads as
+//!     peer report < input                  the recast report
 //!     peer calls < requests                trial calls answered in bulk (the protocol stands in src/calls.rs)
 //!     peer judge REQUESTS < answers        whether every answer to the file of `b` requests keeps the sentences about a record
 //!                                          that goes there and back (they stand in src/returns.rs)
@@ -173,8 +174,9 @@ fn main() -> ExitCode {
     let mut input = io::stdin().lock();
     let mut output = io::stdout().lock();
     let outcome = match arguments.first().map(String::as_str) {
-        Some("report") => peer::report::recast_report(&mut input, &mut output).map(|()| DONE),
+        Some("check-report") => peer::report::check_report(&mut input, &mut output).map(|()| DONE),
         Some("readings") => peer::report::readings_report(&mut input, &mut output).map(|()| DONE),
+        Some("report") => peer::report::recast_report(&mut input, &mut output).map(|()| DONE),
         Some("calls") => peer::calls::serve(&mut in_pieces(input), &mut output).map(|()| DONE),
         Some("judge") => judge(&arguments[1..], input, &mut output),
         Some("generate") => generate(&arguments[1..], &mut output),
@@ -188,7 +190,7 @@ fn main() -> ExitCode {
     match outcome {
         Ok(status) => {
             if status == WRONG_USAGE {
-                eprintln!("peer report | readings | calls | judge REQUESTS | generate SEED COUNT KIND [FORM] | bench");
+                eprintln!("peer check-report | readings | report | calls | judge REQUESTS | generate SEED COUNT KIND [FORM] | bench");
             }
             ExitCode::from(status)
         }

@@ -1,13 +1,17 @@
 //! Times ours and the peer's on the same records, in turn, and prints nanoseconds a record and their ratio.
 //!
 //!     bench calls                                     check, read and recast, as calls
-//!     bench memory RECORDS DAMAGED                    the recast report of an input in memory, as a call
-//!     bench input RECORDS DAMAGED                     an input of the recast report; one in DAMAGED records has a wrong column (0: none)
-//!     bench report RECORDS DAMAGED INPUT PEER LOADER LIBRARIES OURS     the two programs over that input, processor time
+//!     bench input RECORDS DAMAGED                     an input of the programs; one in DAMAGED records has a wrong column (0: none)
+//!     bench memory PROGRAM RECORDS DAMAGED            what a program says of such an input, in memory, as a call
+//!     bench program PROGRAM RECORDS DAMAGED INPUT ROUNDS PEER OURS ..     the peer and the command OURS over that input, processor time
+//!     bench run PROGRAM < input                       ours, as the archive has it: a command for the line above
+//!
+//! PROGRAM is check_report, readings or recast_report.
 
 use std::fs::File;
+use std::hash::{DefaultHasher, Hasher};
 use std::hint::black_box;
-use std::io::{self, BufWriter, Write};
+use std::io::{self, BufWriter, Read, Seek, SeekFrom, Write};
 use std::process::{Command, ExitCode, Stdio};
 use std::rc::Rc;
 use std::time::Instant;
@@ -40,6 +44,7 @@ extern "C" {
         place: *mut u64,
     ) -> u64;
     fn trial_report(
+        job: u64,
         input: *const u8,
         length: usize,
         out: *mut u8,
@@ -48,6 +53,7 @@ extern "C" {
         last_room: usize,
         closing: *mut u64,
     ) -> u64;
+    fn trial_program(job: u64) -> u64;
 }
 
 /// What a call answers: number, place, and the two words of the losses, or the edition in the first of them.
@@ -279,11 +285,75 @@ fn calls() {
     }
 }
 
-/// Writes an input of the recast report to edition 4, records of all editions in turn.
+/// The programs, in the order in which ours numbers them.
+#[derive(Clone, Copy)]
+enum Program {
+    CheckReport,
+    Readings,
+    RecastReport,
+}
+
+impl Program {
+    fn of_name(name: &str) -> Option<Program> {
+        [Program::CheckReport, Program::Readings, Program::RecastReport]
+            .into_iter()
+            .find(|program| program.name() == name)
+    }
+
+    fn name(self) -> &'static str {
+        match self {
+            Program::CheckReport => "check_report",
+            Program::Readings => "readings",
+            Program::RecastReport => "recast_report",
+        }
+    }
+
+    /// The number that ours takes.
+    fn job(self) -> u64 {
+        self as u64
+    }
+
+    /// The sub-command of the peer.
+    fn peer_command(self) -> &'static str {
+        match self {
+            Program::CheckReport => "check-report",
+            Program::Readings => "readings",
+            Program::RecastReport => "report",
+        }
+    }
+
+    fn peer(self, mut input: &[u8], output: &mut Vec<u8>) -> io::Result<()> {
+        match self {
+            Program::CheckReport => peer::report::check_report(&mut input, output),
+            Program::Readings => peer::report::readings_report(&mut input, output),
+            Program::RecastReport => peer::report::recast_report(&mut input, output),
+        }
+    }
+
+    /// Where an input begins: its first line, the edition, is for the recast report alone.
+    fn start(self) -> usize {
+        match self {
+            Program::CheckReport | Program::Readings => FIRST_LINE.len(),
+            Program::RecastReport => 0,
+        }
+    }
+
+    /// More than is said of a record as they are here.
+    fn room(self) -> usize {
+        match self {
+            Program::CheckReport | Program::RecastReport => 256,
+            Program::Readings => 4096,
+        }
+    }
+}
+
+const FIRST_LINE: &[u8] = b"4\n";
+
+/// Writes an input of the programs, records of all editions in turn behind the edition that they are recast to.
 fn put_input(sink: &mut impl Write, count: usize, damaged: usize) -> io::Result<()> {
     let limits = Limits::new();
     let mut chance = Chance::new(2);
-    sink.write_all(b"4\n")?;
+    sink.write_all(FIRST_LINE)?;
     for index in 0..count {
         let edition = Edition::ALL[index % 3];
         for record in records(&mut chance, &limits, edition, 1, damaged) {
@@ -300,20 +370,26 @@ fn input(count: usize, damaged: usize) -> io::Result<()> {
     sink.flush()
 }
 
-fn word_for(damaged: usize) -> &'static str {
-    if damaged == 0 {
-        "accepted"
-    } else {
-        "one in ten damaged"
-    }
+/// One line about a program: how it was run, on how many records, and nanoseconds a record.
+fn show(program: Program, how: &str, count: usize, damaged: usize, ours: f64, theirs: f64) {
+    let word = if damaged == 0 { "accepted" } else { "one in ten damaged" };
+    println!(
+        "{} {how}, {count} records, {word}: ours {ours:.0} ns, peer {theirs:.0} ns a record, ratio {:.2}",
+        program.name(),
+        ours / theirs
+    );
 }
 
-/// The report of an input in memory, ours as the library makes it and the peer's as its program does, the best of some rounds.
-fn memory(count: usize, damaged: usize) -> io::Result<bool> {
+/// What a program says of an input in memory, ours as the library says it and the peer's as its program does, the best of
+/// some rounds. The memory that both write to is the same in all rounds, so that neither waits for new pages.
+fn memory(program: Program, count: usize, damaged: usize) -> io::Result<bool> {
     let mut input = Vec::new();
     put_input(&mut input, count, damaged)?;
-    let mut room = vec![0u8; 64 * count + 4096];
-    let mut last = [0u8; 2048];
+    let input = &input[program.start()..];
+    // Ours stops where little room is left, and needs some for the end.
+    let mut room = vec![0u8; program.room() * count + (1 << 16)];
+    let mut last = [0u8; 20_480];
+    let mut theirs = Vec::with_capacity(room.len());
     let (mut our_best, mut their_best) = (f64::INFINITY, f64::INFINITY);
     for _ in 0..20 {
         let mut closing = 0;
@@ -321,6 +397,7 @@ fn memory(count: usize, damaged: usize) -> io::Result<bool> {
         // The input is readable for its length, what is written to is ours, and none overlaps another.
         let written = unsafe {
             trial_report(
+                program.job(),
                 input.as_ptr(),
                 input.len(),
                 room.as_mut_ptr(),
@@ -332,20 +409,19 @@ fn memory(count: usize, damaged: usize) -> io::Result<bool> {
         };
         our_best = our_best.min(start.elapsed().as_nanos() as f64 / count as f64);
         let (written, closing) = (written as usize, closing as usize);
-        let mut theirs = Vec::with_capacity(room.len());
+        theirs.clear();
         let start = Instant::now();
-        peer::report::recast_report(&mut &input[..], &mut theirs)?;
+        program.peer(input, &mut theirs)?;
         their_best = their_best.min(start.elapsed().as_nanos() as f64 / count as f64);
-        if theirs != [&room[..written], &last[..closing]].concat() {
-            println!("the two reports differ");
+        if theirs.len() != written + closing
+            || theirs[..written] != room[..written]
+            || theirs[written..] != last[..closing]
+        {
+            println!("{}: the two do not say the same in memory", program.name());
             return Ok(false);
         }
     }
-    println!(
-        "report in memory of {count} records, {}: ours {our_best:.0} ns, peer {their_best:.0} ns a record, ratio {:.2}",
-        word_for(damaged),
-        our_best / their_best
-    );
+    show(program, "in memory", count, damaged, our_best, their_best);
     Ok(true)
 }
 
@@ -370,56 +446,91 @@ fn children() -> f64 {
     seconds(usage.user) + seconds(usage.system)
 }
 
-/// What the command prints for the input, and its processor time.
-fn timed(command: &mut Command, input: &str) -> io::Result<(Vec<u8>, f64)> {
-    let before = children();
-    let output = command.stdin(File::open(input)?).stdout(Stdio::piped()).stderr(Stdio::inherit()).output()?;
-    Ok((output.stdout, children() - before))
+/// What a command printed: how much, and a number that is another for another text. It may be gigabytes, and is not kept.
+type Printed = (u64, u64);
+
+fn printed(output: impl Read) -> io::Result<Printed> {
+    const BLOCK: u64 = 1 << 20;
+    let mut output = output;
+    let mut block = Vec::with_capacity(BLOCK as usize);
+    let (mut length, mut hasher) = (0, DefaultHasher::new());
+    loop {
+        // Always a whole block, until the last: the number is of blocks, however the output comes.
+        block.clear();
+        let count = output.by_ref().take(BLOCK).read_to_end(&mut block)?;
+        if count == 0 {
+            return Ok((length, hasher.finish()));
+        }
+        length += count as u64;
+        hasher.write(&block);
+    }
 }
 
-fn report(arguments: &[String]) -> io::Result<bool> {
-    let [count, damaged, input, their_program, loader, libraries, our_program] = arguments else {
+/// What the command prints for the input from some byte on, and its processor time.
+fn timed(command: &mut Command, input: &str, start: usize) -> io::Result<(Printed, f64)> {
+    let before = children();
+    let mut input = File::open(input)?;
+    input.seek(SeekFrom::Start(start as u64))?;
+    let mut child = command.stdin(input).stdout(Stdio::piped()).spawn()?;
+    let printed = child.stdout.take().map_or(Ok((0, 0)), printed)?;
+    let status = child.wait()?;
+    // 1 says that a record was refused.
+    match status.code() {
+        Some(0 | 1) => Ok((printed, children() - before)),
+        _ => Err(io::Error::other(format!("{command:?} ended with {status}"))),
+    }
+}
+
+/// The peer and ours over the input, in turn, the best of some rounds.
+fn program(program: Program, count: usize, damaged: usize, rest: &[String]) -> io::Result<bool> {
+    let [input, rounds, their_program, our_program, our_words @ ..] = rest else {
         return Ok(false);
     };
-    let Ok(count) = count.parse::<f64>() else {
+    let Ok(rounds) = rounds.parse::<usize>() else {
         return Ok(false);
     };
     let (mut our_best, mut their_best) = (f64::INFINITY, f64::INFINITY);
-    for _ in 0..5 {
-        let (ours, time) = timed(Command::new(loader).arg("--library-path").arg(libraries).arg(our_program), input)?;
-        our_best = our_best.min(time / count);
-        let (theirs, time) = timed(Command::new(their_program).arg("report"), input)?;
-        their_best = their_best.min(time / count);
+    for _ in 0..rounds {
+        let (ours, time) = timed(Command::new(our_program).args(our_words), input, program.start())?;
+        our_best = our_best.min(time / count as f64);
+        let (theirs, time) = timed(Command::new(their_program).arg(program.peer_command()), input, program.start())?;
+        their_best = their_best.min(time / count as f64);
         if ours != theirs {
-            println!("the two reports differ");
+            println!("{}: the two do not print the same", program.name());
             return Ok(false);
         }
     }
-    let word = word_for(usize::from(damaged != "0"));
-    println!(
-        "report of {count} records, {word}: ours {our_best:.0} ns, peer {their_best:.0} ns a record, ratio {:.2}",
-        our_best / their_best
-    );
+    show(program, "as a program", count, damaged, our_best, their_best);
     Ok(true)
 }
 
 fn main() -> ExitCode {
     let arguments: Vec<String> = std::env::args().skip(1).collect();
-    let number = |index: usize| arguments.get(index).and_then(|word| word.parse().ok());
-    let outcome = match arguments.first().map(String::as_str) {
+    let words: Vec<&str> = arguments.iter().map(String::as_str).collect();
+    let named = |index: usize| words.get(index).and_then(|word| Program::of_name(word));
+    let number = |index: usize| words.get(index).and_then(|word| word.parse().ok());
+    let outcome = match words.first().copied() {
         Some("calls") => {
             calls();
             Ok(true)
         }
-        Some("memory") => match (number(1), number(2)) {
-            (Some(count), Some(damaged)) => memory(count, damaged),
-            _ => Ok(false),
-        },
         Some("input") => match (number(1), number(2)) {
             (Some(count), Some(damaged)) => input(count, damaged).map(|()| true),
             _ => Ok(false),
         },
-        Some("report") => report(&arguments[1..]),
+        Some("memory") => match (named(1), number(2), number(3)) {
+            (Some(named), Some(count), Some(damaged)) => memory(named, count, damaged),
+            _ => Ok(false),
+        },
+        Some("program") => match (named(1), number(2), number(3)) {
+            (Some(named), Some(count), Some(damaged)) => program(named, count, damaged, &arguments[4..]),
+            _ => Ok(false),
+        },
+        Some("run") => match named(1) {
+            // It reads descriptor 0 and writes descriptor 1, which nothing else here has touched. The answer is 0, 1 or 2.
+            Some(named) => return ExitCode::from(unsafe { trial_program(named.job()) } as u8),
+            None => Ok(false),
+        },
         _ => Ok(false),
     };
     match outcome {

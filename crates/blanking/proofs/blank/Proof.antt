@@ -14,23 +14,11 @@ rises c =
     let args = c .before .before .before .before .args in
     omega (arith, c .before .before .start-of .ensures, c .start-of2 .ensures, start-rises (args .first) (args .last + 1) (omega arith))
 
-start-of-requires : tie.Need-start-of-requires
-start-of-requires c κs = search needs
-
-add-start-of : tie.Need-add-start-of
-add-start-of c = search needs
-
-start-of-requires-2 : tie.Need-start-of-requires-2
-start-of-requires-2 c κs = search needs
-
 sub-blank-run : tie.Need-sub-blank-run
 sub-blank-run c = rises c
 
 blank-run-requires : tie.Need-blank-run-requires
 blank-run-requires c κs = (omega (arith, rises c, c .start-of2 .ensures), c .before .before .before .before .pre .1 .1)
-
-same-length : tie.Need-same-length
-same-length c = search needs
 
 returns : tie.Need-returns
 returns c =
@@ -40,4 +28,4 @@ returns c =
     c .before .before .blank-run .ensures ∙ as-run (start .args .first) (start .args .last) (start .args .low) (start .args .high) (start .pre .0 .0) _ _ _ (at .start-of .ensures) (ap (λ (n : ℕ). n - at .start-of .result) (end .start-of2 .ensures))
 
 pub blank-spec : {M : Type 1} → statement M
-blank-spec = tie.close (tie.spec start-of-requires add-start-of start-of-requires-2 sub-blank-run blank-run-requires same-length returns)
+blank-spec = tie.close (tie.spec (λ c κs. search needs) (λ c. search needs) (λ c κs. search needs) sub-blank-run blank-run-requires (λ c. search needs) returns)

@@ -26,9 +26,6 @@ blank-requires-3 c κs = ((lit≤ tt, omega (arith, start-shared 42 (lit≤ tt))
 blank-requires-4 : tie.Need-blank-requires-4
 blank-requires-4 c κs = ((lit≤ tt, omega (arith, start-shared 42 (lit≤ tt))), (lit≤ tt, lit≤ tt))
 
-same-length : tie.Need-same-length
-same-length c = search needs
-
 returns-2 : tie.Need-returns-2
 unfolding codesLost
 returns-2 c =
@@ -42,4 +39,4 @@ returns-2 c =
     (then (some 40 40 49 49) (some 40 40 52 52) _ _ _ (one .blank .ensures) (two .blank2 .ensures)) (three .blank3 .ensures)) (four .blank4 .ensures))
 
 pub blank-codes-spec : {M : Type 1} → statement M
-blank-codes-spec = tie.close (tie.spec returns blank-requires blank-requires-2 blank-requires-3 blank-requires-4 same-length returns-2)
+blank-codes-spec = tie.close (tie.spec returns blank-requires blank-requires-2 blank-requires-3 blank-requires-4 (λ c. search needs) returns-2)

@@ -16,9 +16,6 @@ returns c = idle countryLost (λ at b. refl) (c .before .before .args .crossing)
 blank-requires : tie.Need-blank-requires
 blank-requires c κs = ((lit≤ tt, omega (arith, start-shared 44 (lit≤ tt))), (lit≤ tt, lit≤ tt))
 
-same-length : tie.Need-same-length
-same-length c = search needs
-
 returns-2 : tie.Need-returns-2
 unfolding countryLost
 returns-2 c =
@@ -27,4 +24,4 @@ returns-2 c =
     taken countryLost (start .before .before .args .crossing) (start .if1 .left) _ _ (one .blank .ensures)
 
 pub blank-country-spec : {M : Type 1} → statement M
-blank-country-spec = tie.close (tie.spec returns blank-requires same-length returns-2)
+blank-country-spec = tie.close (tie.spec returns blank-requires (λ c. search needs) returns-2)

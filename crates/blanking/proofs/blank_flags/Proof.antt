@@ -23,9 +23,6 @@ blank-requires-2 c κs = ((lit≤ tt, omega (arith, start-shared 82 (lit≤ tt))
 blank-requires-3 : tie.Need-blank-requires-3
 blank-requires-3 c κs = ((lit≤ tt, omega (arith, start-shared 86 (lit≤ tt))), (lit≤ tt, lit≤ tt))
 
-same-length : tie.Need-same-length
-same-length c = search needs
-
 returns-2 : tie.Need-returns-2
 unfolding flagsLost
 returns-2 c =
@@ -37,4 +34,4 @@ returns-2 c =
     (then (some 66 73 54 55) (some 74 81 54 55) _ _ _ (one .blank .ensures) (two .blank2 .ensures)) (three .blank3 .ensures))
 
 pub blank-flags-spec : {M : Type 1} → statement M
-blank-flags-spec = tie.close (tie.spec returns blank-requires blank-requires-2 blank-requires-3 same-length returns-2)
+blank-flags-spec = tie.close (tie.spec returns blank-requires blank-requires-2 blank-requires-3 (λ c. search needs) returns-2)

@@ -20,9 +20,6 @@ blank-requires c κs = ((lit≤ tt, omega (arith, start-below 87 (lit≤ tt))), 
 blank-requires-2 : tie.Need-blank-requires-2
 blank-requires-2 c κs = ((lit≤ tt, omega (arith, start-below 102 (lit≤ tt))), (lit≤ tt, lit≤ tt))
 
-same-length : tie.Need-same-length
-same-length c = search needs
-
 returns-2 : tie.Need-returns-2
 unfolding laterLost
 returns-2 c =
@@ -32,4 +29,4 @@ returns-2 c =
     taken (laterLost false) (start .before .before .args .back) (start .if1 .left) _ _ (then (some 86 86 54 54) (some 94 101 54 55) _ _ _ (one .blank .ensures) (two .blank2 .ensures))
 
 pub blank-later-spec : {M : Type 1} → statement M
-blank-later-spec = tie.close (tie.spec returns blank-requires blank-requires-2 same-length returns-2)
+blank-later-spec = tie.close (tie.spec returns blank-requires blank-requires-2 (λ c. search needs) returns-2)

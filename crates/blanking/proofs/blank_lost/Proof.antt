@@ -10,20 +10,11 @@ use Rattle.blanking.proofs.blank_lost.Tie as tie
 blank-shared-requires : tie.Need-blank-shared-requires
 blank-shared-requires c κs = omega (arith, c .before .before .pre .0, shortest (c .before .before .args .to))
 
-is-first-requires : tie.Need-is-first-requires
-is-first-requires c κs = search needs
-
-same-length : tie.Need-same-length
-same-length c = search needs
-
 returns : tie.Need-returns
 returns c =
     let shared = c .before .before .before .before in
     let start = shared .before .before .before in
     in-first (start .args .from) (start .args .to) _ (start .pre .0) (start .pre .1) (sym (c .before .is-first .ensures) ∙ c .if1 .taken) _ (shared .blank-shared .ensures)
-
-is-leaving-requires : tie.Need-is-leaving-requires
-is-leaving-requires c κs = search needs
 
 blank-later-requires : tie.Need-blank-later-requires
 blank-later-requires c κs =
@@ -31,9 +22,6 @@ blank-later-requires c κs =
     let shared = branch .before .before .before .before in
     let start = shared .before .before .before in
     omega (arith, start .pre .0, other-length (start .args .to) (sym (branch .before .is-first .ensures) ∙ branch .if1 .left), shared .blank-shared .kept .1 .1 .0)
-
-same-length-2 : tie.Need-same-length-2
-same-length-2 c = search needs
 
 returns-2 : tie.Need-returns-2
 returns-2 c =
@@ -48,10 +36,10 @@ blank-lost-spec =
     tie.close
     (tie.spec
     blank-shared-requires
-    is-first-requires
-    same-length
+    (λ c κs. search needs)
+    (λ c. search needs)
     returns
-    is-leaving-requires
+    (λ c κs. search needs)
     blank-later-requires
-    same-length-2
+    (λ c. search needs)
     returns-2)

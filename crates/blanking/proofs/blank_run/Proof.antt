@@ -22,29 +22,11 @@ long c = ap length (c .before .loop .inv .1) ∙ blanked-length _ 0 _
 loop-holds : tie.Need-loop-holds Inv-loop μ-loop
 loop-holds c = (omega arith, no-run (c .before .args .low) (c .before .args .high) _ _ 0 refl)
 
-add-b : tie.Need-add-b Inv-loop μ-loop
-add-b c = search needs
-
 slice-read-b : tie.Need-slice-read-b Inv-loop μ-loop
 slice-read-b c = omega (arith, long (c .before))
 
-is-in-requires : tie.Need-is-in-requires Inv-loop μ-loop
-is-in-requires c κs = search needs
-
-left-requires : tie.Need-left-requires Inv-loop μ-loop
-left-requires c κs = search needs
-
-add-row : tie.Need-add-row Inv-loop μ-loop
-add-row c = search needs
-
 slice-write-row : tie.Need-slice-write-row Inv-loop μ-loop
 slice-write-row c = omega (arith, long (c .before .before .before))
-
-add-k : tie.Need-add-k Inv-loop μ-loop
-add-k c = search needs
-
-loop-less : tie.Need-loop-less Inv-loop μ-loop
-loop-less c = search needs
 
 loop-again : tie.Need-loop-again Inv-loop μ-loop
 loop-again c =
@@ -72,14 +54,14 @@ blank-run-spec =
     Inv-loop
     μ-loop
     loop-holds
-    add-b
+    (λ c. search needs)
     slice-read-b
-    is-in-requires
-    left-requires
-    add-row
+    (λ c κs. search needs)
+    (λ c κs. search needs)
+    (λ c. search needs)
     slice-write-row
-    add-k
-    loop-less
+    (λ c. search needs)
+    (λ c. search needs)
     loop-again
     same-length
     returns)

@@ -5,33 +5,6 @@ use Rattle.blanking.proofs.Blanked.{then-by, tested}
 use Rattle.blanking.proofs.blank_shared.Statement.{statement}
 use Rattle.blanking.proofs.blank_shared.Tie as tie
 
-is-change-requires : tie.Need-is-change-requires
-is-change-requires c κs = search needs
-
-blank-codes-requires : tie.Need-blank-codes-requires
-blank-codes-requires c κs = search needs
-
-is-crossing-requires : tie.Need-is-crossing-requires
-is-crossing-requires c κs = search needs
-
-blank-country-requires : tie.Need-blank-country-requires
-blank-country-requires c κs = search needs
-
-is-leaving-requires : tie.Need-is-leaving-requires
-is-leaving-requires c κs = search needs
-
-blank-version-requires : tie.Need-blank-version-requires
-blank-version-requires c κs = search needs
-
-is-leaving-requires-2 : tie.Need-is-leaving-requires-2
-is-leaving-requires-2 c κs = search needs
-
-blank-flags-requires : tie.Need-blank-flags-requires
-blank-flags-requires c κs = search needs
-
-same-length : tie.Need-same-length
-same-length c = search needs
-
 returns : tie.Need-returns
 unfolding sharedLost
 returns c =
@@ -50,13 +23,13 @@ pub blank-shared-spec : {M : Type 1} → statement M
 blank-shared-spec =
     tie.close
     (tie.spec
-    is-change-requires
-    blank-codes-requires
-    is-crossing-requires
-    blank-country-requires
-    is-leaving-requires
-    blank-version-requires
-    is-leaving-requires-2
-    blank-flags-requires
-    same-length
+    (λ c κs. search needs)
+    (λ c κs. search needs)
+    (λ c κs. search needs)
+    (λ c κs. search needs)
+    (λ c κs. search needs)
+    (λ c κs. search needs)
+    (λ c κs. search needs)
+    (λ c κs. search needs)
+    (λ c. search needs)
     returns)

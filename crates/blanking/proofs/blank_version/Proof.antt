@@ -19,9 +19,6 @@ blank-requires c κs = ((lit≤ tt, omega (arith, start-shared 65 (lit≤ tt))),
 blank-requires-2 : tie.Need-blank-requires-2
 blank-requires-2 c κs = ((lit≤ tt, omega (arith, start-shared 65 (lit≤ tt))), (lit≤ tt, lit≤ tt))
 
-same-length : tie.Need-same-length
-same-length c = search needs
-
 returns-2 : tie.Need-returns-2
 unfolding versionLost
 returns-2 c =
@@ -31,4 +28,4 @@ returns-2 c =
     taken versionLost (start .before .before .args .back) (start .if1 .left) _ _ (then (some 64 64 57 57) (some 64 64 65 65) _ _ _ (one .blank .ensures) (two .blank2 .ensures))
 
 pub blank-version-spec : {M : Type 1} → statement M
-blank-version-spec = tie.close (tie.spec returns blank-requires blank-requires-2 same-length returns-2)
+blank-version-spec = tie.close (tie.spec returns blank-requires blank-requires-2 (λ c. search needs) returns-2)

@@ -4,11 +4,8 @@ use Rattle.faults.proofs.Joins.{is-none}
 use Rattle.blanking.proofs.is_in.Statement.{statement}
 use Rattle.blanking.proofs.is_in.Tie as tie
 
-strays-requires : tie.Need-strays-requires
-strays-requires c κs = search needs
-
 returns : tie.Need-returns
 returns c = is-none _ (c .strays .ensures (c .before .pre))
 
 pub is-in-spec : {M : Type 1} → statement M
-is-in-spec = tie.close (tie.spec strays-requires returns)
+is-in-spec = tie.close (tie.spec (λ c κs. search needs) returns)

@@ -15,9 +15,6 @@ returns-2 : tie.Need-returns-2
 unfolding lastDay
 returns-2 c = rw (eq-eqb _ 2 (c .before .if1 .taken), c .if2 .left)
 
-is-among-requires : tie.Need-is-among-requires
-is-among-requires c κs = search needs
-
 returns-3 : tie.Need-returns-3
 returns-3 c = has-30 _ _ (ne-eqb _ 2 (c .before .before .if1 .left)) (sym (c .before .is-among .ensures) ∙ c .if3 .taken)
 
@@ -25,4 +22,4 @@ returns-4 : tie.Need-returns-4
 returns-4 c = has-31 _ _ (ne-eqb _ 2 (c .before .before .if1 .left)) (sym (c .before .is-among .ensures) ∙ c .if3 .left)
 
 pub last-day-spec : {M : Type 1} → statement M
-last-day-spec = tie.close (tie.spec returns returns-2 is-among-requires returns-3 returns-4)
+last-day-spec = tie.close (tie.spec returns returns-2 (λ c κs. search needs) returns-3 returns-4)

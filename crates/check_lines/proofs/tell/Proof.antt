@@ -8,38 +8,14 @@ use borrow.Author.Needs.{needs}
 use Rattle.check_lines.proofs.tell.Statement.{statement}
 use Rattle.check_lines.proofs.tell.Tie as tie
 
-check-requires : tie.Need-check-requires
-check-requires c κs = search needs
-
-enum-known-answer : tie.Need-enum-known-answer
-enum-known-answer c = search needs
-
 call-sign-after-requires : tie.Need-call-sign-after-requires
 call-sign-after-requires c κs = λ ed a. accepted-exactly _ ed .0 (sym (c .before .before .before .check .ensures) ∙ c .before .answer .given .1 ∙ a) .full
-
-put-accepted-requires : tie.Need-put-accepted-requires
-put-accepted-requires c κs = search needs
-
-put-call-sign-requires : tie.Need-put-call-sign-requires
-put-call-sign-requires c κs = search needs
-
-enum-known-answer-2 : tie.Need-enum-known-answer-2
-enum-known-answer-2 c = search needs
-
-put-refused-requires : tie.Need-put-refused-requires
-put-refused-requires c κs = search needs
-
-same-length : tie.Need-same-length
-same-length c = search needs
 
 returns : tie.Need-returns
 returns c =
     let accepted = c .before .before .before .before .before .before .put-accepted .ensures .0 in
     let sign = c .before .before .put-call-sign .ensures .0 in
     accepted-told _ (c .before .before .before .before .before .before .before .before .before .before .before .before .before .before .before .args .line .now) _ (c .before .before .before .before .before .before .before .before .before .before .before .before .check .ensures) _ _ (c .before .before .before .before .before .before .before .before .before .before .answer .given .1) (c .before .before .before .before .before .before .before .before .call-sign-after .ensures .0) (also accepted sign (omega arith)) (omega arith)
-
-same-length-2 : tie.Need-same-length-2
-same-length-2 c = search needs
 
 returns-2 : tie.Need-returns-2
 returns-2 c = refused-told _ (c .before .before .before .before .before .before .before .before .before .before .args .line .now) _ (c .before .before .before .before .before .before .before .check .ensures) _ (c .before .before .before .before .before .answer2 .given .1) (c .before .before .put-refused .ensures .0) (omega arith)
@@ -48,14 +24,14 @@ pub tell-spec : {M : Type 1} → statement M
 tell-spec =
     tie.close
     (tie.spec
-    check-requires
-    enum-known-answer
+    (λ c κs. search needs)
+    (λ c. search needs)
     call-sign-after-requires
-    put-accepted-requires
-    put-call-sign-requires
-    enum-known-answer-2
-    put-refused-requires
-    same-length
+    (λ c κs. search needs)
+    (λ c κs. search needs)
+    (λ c. search needs)
+    (λ c κs. search needs)
+    (λ c. search needs)
     returns
-    same-length-2
+    (λ c. search needs)
     returns-2)

@@ -8,23 +8,11 @@ use native.Mathlib.Omega.{arith}
 use Rattle.checking.proofs.call_sign_after.Statement.{statement}
 use Rattle.checking.proofs.call_sign_after.Tie as tie
 
-enum-told : tie.Need-enum-told
-enum-told c = search needs
-
 full-text-requires : tie.Need-full-text-requires
 full-text-requires c κs = long (c .before .before .before .args .line .now) (c .enum-told .given .0 .0) (c .before .before .before .pre _ (c .enum-told .given .1)) _ (lit≤ tt)
 
-filled-requires : tie.Need-filled-requires
-filled-requires c κs = search needs
-
 slice-aggregate-result : tie.Need-slice-aggregate-result
 slice-aggregate-result c = front-length _ _ (c .before .filled .ensures .0)
-
-enum-told-2 : tie.Need-enum-told-2
-enum-told-2 c = search needs
-
-slice-aggregate-result-2 : tie.Need-slice-aggregate-result-2
-slice-aggregate-result-2 c = search needs
 
 returns : tie.Need-returns
 returns c =
@@ -39,11 +27,11 @@ pub call-sign-after-spec : {M : Type 1} → statement M
 call-sign-after-spec =
     tie.close
     (tie.spec
-    enum-told
+    (λ c. search needs)
     full-text-requires
-    filled-requires
+    (λ c κs. search needs)
     slice-aggregate-result
-    enum-told-2
-    slice-aggregate-result-2
+    (λ c. search needs)
+    (λ c. search needs)
     returns
     returns-2)

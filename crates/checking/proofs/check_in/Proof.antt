@@ -6,9 +6,6 @@ use mathlib.Core.Path.{_∙_, sym}
 use Rattle.checking.proofs.check_in.Statement.{statement}
 use Rattle.checking.proofs.check_in.Tie as tie
 
-length-requires : tie.Need-length-requires
-length-requires c κs = search needs
-
 returns : tie.Need-returns
 returns c = wrong-length _ _ (λ e. c .if1 .taken (e ∙ sym (c .before .length .ensures)))
 
@@ -17,9 +14,6 @@ first-illegal-requires c κs = c .if1 .left ∙ c .before .length .ensures
 
 returns-2 : tie.Need-returns-2
 returns-2 c = illegal _ _ (c .before .before .if1 .left ∙ c .before .before .before .length .ensures) _ (c .before .first-illegal .ensures) (c .if2 .taken)
-
-first-broken-requires : tie.Need-first-broken-requires
-first-broken-requires c κs = search needs
 
 returns-3 : tie.Need-returns-3
 returns-3 c = broken _ _ (c .before .before .before .before .if1 .left ∙ c .before .before .before .before .before .length .ensures) _ (c .before .before .before .first-illegal .ensures) (c .before .before .if2 .left) _ (c .before .first-broken .ensures) (c .if3 .taken)
@@ -31,10 +25,10 @@ pub check-in-spec : {M : Type 1} → statement M
 check-in-spec =
     tie.close
     (tie.spec
-    length-requires
+    (λ c κs. search needs)
     returns
     first-illegal-requires
     returns-2
-    first-broken-requires
+    (λ c κs. search needs)
     returns-3
     returns-4)

@@ -20,14 +20,8 @@ use Rattle.checking.proofs.check_in_order.Tie as tie
 in-edition : {m n : Named} (xs : List ℕ) → m ≡ n → checkedIn n xs ≡ checkedIn m xs
 in-edition xs e = sym (ap (λ (q : Named). checkedIn q xs) e)
 
-is-known-length-requires : tie.Need-is-known-length-requires
-is-known-length-requires c κs = search needs
-
 returns : tie.Need-returns
 returns c = unknown-length _ _ (c .before .is-known-length .ensures) (not-true _ (c .if1 .taken))
-
-first-unprintable-requires : tie.Need-first-unprintable-requires
-first-unprintable-requires c κs = search needs
 
 returns-2 : tie.Need-returns-2
 returns-2 c = unprintable _ _ (c .before .before .before .is-known-length .ensures) (not-false _ (c .before .before .if1 .left)) _ (c .before .first-unprintable .ensures) (c .if2 .taken)
@@ -37,9 +31,6 @@ first-byte-requires c κs =
     let known = c .before .before .before in
     let line = known .before .before .args .line .now in
     has-first One line (long-enough line _ (known .is-known-length .ensures) (not-false _ (c .before .before .if1 .left))) _ (lit≤ tt) (lit≤ tt)
-
-strays-requires : tie.Need-strays-requires
-strays-requires c κs = search needs
 
 returns-3 : tie.Need-returns-3
 returns-3 c =
@@ -53,18 +44,6 @@ first-byte-requires-2 c κs =
     let known = printed .before .before .before in
     let line = known .before .before .args .line .now in
     has-first One line (long-enough line _ (known .is-known-length .ensures) (not-false _ (printed .before .before .if1 .left))) _ (lit≤ tt) (lit≤ tt)
-
-of-digit-requires : tie.Need-of-digit-requires
-of-digit-requires c κs = search needs
-
-enum-known-edition : tie.Need-enum-known-edition
-enum-known-edition c = search needs
-
-check-in-requires : tie.Need-check-in-requires
-check-in-requires c κs = search needs
-
-enum-told : tie.Need-enum-told
-enum-told c = search needs
 
 returns-4 : tie.Need-returns-4
 returns-4 c =
@@ -88,5 +67,5 @@ returns-5 c =
 pub check-in-order-spec : {M : Type 1} → statement M
 check-in-order-spec =
     tie.close
-    (tie.spec is-known-length-requires returns first-unprintable-requires returns-2 first-byte-requires strays-requires returns-3 first-byte-requires-2 of-digit-requires enum-known-edition
-    check-in-requires enum-told returns-4 returns-5)
+    (tie.spec (λ c κs. search needs) returns (λ c κs. search needs) returns-2 first-byte-requires (λ c κs. search needs) returns-3 first-byte-requires-2 (λ c κs. search needs) (λ c. search needs)
+    (λ c κs. search needs) (λ c. search needs) returns-4 returns-5)

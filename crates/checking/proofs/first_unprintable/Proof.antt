@@ -21,26 +21,11 @@ abbrev μ-loop : tie.MeasureT-loop
 loop-holds : tie.Need-loop-holds Inv-loop μ-loop
 loop-holds c = (search needs, begin (printableAt _) _)
 
-sub-strays : tie.Need-sub-strays Inv-loop μ-loop
-sub-strays c = search needs
-
-shared-slice-read-strays : tie.Need-shared-slice-read-strays Inv-loop μ-loop
-shared-slice-read-strays c = search needs
-
-strays-requires : tie.Need-strays-requires Inv-loop μ-loop
-strays-requires c κs = search needs
-
 returns : tie.Need-returns Inv-loop μ-loop
 returns c =
     let turn = c .before .before .before in
     let inv = turn .before .loop .inv in
     sym (inv .1 ∙ off (printableAt _) _ _ (turn .loop-test .taken) (sym (printed _ _ (inv .0) (turn .loop-test .taken) (c .before .strays .ensures (omega arith))) ∙ ne-eqb _ 0 (c .if1 .taken)))
-
-add-c : tie.Need-add-c Inv-loop μ-loop
-add-c c = search needs
-
-loop-less : tie.Need-loop-less Inv-loop μ-loop
-loop-less c = search needs
 
 loop-again : tie.Need-loop-again Inv-loop μ-loop
 loop-again c =
@@ -53,4 +38,4 @@ returns-2 c = sym (c .before .loop .inv .1 ∙ end (printableAt _) _ _ (c .loop-
 
 pub first-unprintable-spec : {M : Type 1} → statement M
 first-unprintable-spec =
-    tie.close (tie.spec Inv-loop μ-loop loop-holds sub-strays shared-slice-read-strays strays-requires returns add-c loop-less loop-again returns-2)
+    tie.close (tie.spec Inv-loop μ-loop loop-holds (λ c. search needs) (λ c. search needs) (λ c κs. search needs) returns (λ c. search needs) (λ c. search needs) loop-again returns-2)

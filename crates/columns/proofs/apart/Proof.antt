@@ -5,24 +5,6 @@ use borrow.Author.Needs.{needs}
 use Rattle.columns.proofs.apart.Statement.{statement}
 use Rattle.columns.proofs.apart.Tie as tie
 
-equal-requires : tie.Need-equal-requires
-equal-requires c κs = search needs
-
-equal-requires-2 : tie.Need-equal-requires-2
-equal-requires-2 c κs = search needs
-
-other-requires : tie.Need-other-requires
-other-requires c κs = search needs
-
-equal-requires-3 : tie.Need-equal-requires-3
-equal-requires-3 c κs = search needs
-
-past-requires : tie.Need-past-requires
-past-requires c κs = search needs
-
-equal-requires-4 : tie.Need-equal-requires-4
-equal-requires-4 c κs = search needs
-
 returns : tie.Need-returns
 unfolding joined
 returns c =
@@ -33,10 +15,10 @@ pub apart-spec : {M : Type 1} → statement M
 apart-spec =
     tie.close
     (tie.spec
-    equal-requires
-    equal-requires-2
-    other-requires
-    equal-requires-3
-    past-requires
-    equal-requires-4
+    (λ c κs. search needs)
+    (λ c κs. search needs)
+    (λ c κs. search needs)
+    (λ c κs. search needs)
+    (λ c κs. search needs)
+    (λ c κs. search needs)
     returns)

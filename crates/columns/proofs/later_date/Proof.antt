@@ -7,12 +7,9 @@ use borrow.Author.Needs.{needs}
 use Rattle.columns.proofs.later_date.Statement.{statement}
 use Rattle.columns.proofs.later_date.Tie as tie
 
-part-requires : tie.Need-part-requires
-part-requires c κs = search needs
-
 returns : tie.Need-returns
 unfolding cells cellsFrom cellOf bonds bondsFrom inside after page
 returns c = λ z. (c .part .ensures z Three refl, c .part .ensures z Four refl)
 
 pub later-date-spec : {M : Type 1} → statement M
-later-date-spec = tie.close (tie.spec part-requires returns)
+later-date-spec = tie.close (tie.spec (λ c κs. search needs) returns)

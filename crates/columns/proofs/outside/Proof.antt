@@ -5,18 +5,9 @@ use borrow.Author.Needs.{needs}
 use Rattle.columns.proofs.outside.Statement.{statement}
 use Rattle.columns.proofs.outside.Tie as tie
 
-other-requires : tie.Need-other-requires
-other-requires c κs = search needs
-
-strays-requires : tie.Need-strays-requires
-strays-requires c κs = search needs
-
-strays-requires-2 : tie.Need-strays-requires-2
-strays-requires-2 c κs = search needs
-
 returns : tie.Need-returns
 unfolding allowed
 returns c = λ l m. either-of _ _ (c .before .before .other .ensures) (either-of _ _ (c .before .strays .ensures l) (c .strays2 .ensures m))
 
 pub outside-spec : {M : Type 1} → statement M
-outside-spec = tie.close (tie.spec other-requires strays-requires strays-requires-2 returns)
+outside-spec = tie.close (tie.spec (λ c κs. search needs) (λ c κs. search needs) (λ c κs. search needs) returns)

@@ -7,20 +7,11 @@ use borrow.Author.Needs.{needs}
 use Rattle.columns.proofs.own.Statement.{statement}
 use Rattle.columns.proofs.own.Tie as tie
 
-enum-told : tie.Need-enum-told
-enum-told c = search needs
-
 own-requires : tie.Need-own-requires
 own-requires c κs = c .before .before .before .pre ∙ ap lengthOf (c .enum-told .given .1)
 
-enum-told-2 : tie.Need-enum-told-2
-enum-told-2 c = search needs
-
 own-requires-2 : tie.Need-own-requires-2
 own-requires-2 c κs = c .before .before .before .pre ∙ ap lengthOf (c .enum-told2 .given .1)
-
-enum-told-3 : tie.Need-enum-told-3
-enum-told-3 c = search needs
 
 own-requires-3 : tie.Need-own-requires-3
 own-requires-3 c κs = c .before .before .before .pre ∙ ap lengthOf (c .enum-told3 .given .1)
@@ -38,11 +29,11 @@ pub own-spec : {M : Type 1} → statement M
 own-spec =
     tie.close
     (tie.spec
-    enum-told
+    (λ c. search needs)
     own-requires
-    enum-told-2
+    (λ c. search needs)
     own-requires-2
-    enum-told-3
+    (λ c. search needs)
     own-requires-3
     returns
     returns-2

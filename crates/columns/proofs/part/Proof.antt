@@ -19,48 +19,6 @@ abbrev μ-loop : tie.MeasureT-loop
 loop-holds : tie.Need-loop-holds Inv-loop μ-loop
 loop-holds c = (search needs, λ e. below-none _)
 
-add-b : tie.Need-add-b Inv-loop μ-loop
-add-b c = search needs
-
-shared-slice-read-b : tie.Need-shared-slice-read-b Inv-loop μ-loop
-shared-slice-read-b c = search needs
-
-add-next : tie.Need-add-next Inv-loop μ-loop
-add-next c = search needs
-
-add-next-2 : tie.Need-add-next-2 Inv-loop μ-loop
-add-next-2 c = search needs
-
-shared-slice-read-next : tie.Need-shared-slice-read-next Inv-loop μ-loop
-shared-slice-read-next c = search needs
-
-array-read-outside : tie.Need-array-read-outside Inv-loop μ-loop
-array-read-outside c = search needs
-
-array-read-outside-2 : tie.Need-array-read-outside-2 Inv-loop μ-loop
-array-read-outside-2 c = search needs
-
-array-read-outside-3 : tie.Need-array-read-outside-3 Inv-loop μ-loop
-array-read-outside-3 c = search needs
-
-array-read-outside-4 : tie.Need-array-read-outside-4 Inv-loop μ-loop
-array-read-outside-4 c = search needs
-
-outside-requires : tie.Need-outside-requires Inv-loop μ-loop
-outside-requires c κs = search needs
-
-array-read-apart : tie.Need-array-read-apart Inv-loop μ-loop
-array-read-apart c = search needs
-
-apart-requires : tie.Need-apart-requires Inv-loop μ-loop
-apart-requires c κs = search needs
-
-add-k : tie.Need-add-k Inv-loop μ-loop
-add-k c = search needs
-
-loop-less : tie.Need-loop-less Inv-loop μ-loop
-loop-less c = search needs
-
 loop-again : tie.Need-loop-again Inv-loop μ-loop
 loop-again c =
     let loop = c .before .before .before .before .before .loop in
@@ -80,19 +38,19 @@ part-spec =
     Inv-loop
     μ-loop
     loop-holds
-    add-b
-    shared-slice-read-b
-    add-next
-    add-next-2
-    shared-slice-read-next
-    array-read-outside
-    array-read-outside-2
-    array-read-outside-3
-    array-read-outside-4
-    outside-requires
-    array-read-apart
-    apart-requires
-    add-k
-    loop-less
+    (λ c. search needs)
+    (λ c. search needs)
+    (λ c. search needs)
+    (λ c. search needs)
+    (λ c. search needs)
+    (λ c. search needs)
+    (λ c. search needs)
+    (λ c. search needs)
+    (λ c. search needs)
+    (λ c κs. search needs)
+    (λ c. search needs)
+    (λ c κs. search needs)
+    (λ c. search needs)
+    (λ c. search needs)
     loop-again
     returns)

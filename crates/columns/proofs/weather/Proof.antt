@@ -8,12 +8,9 @@ use borrow.Author.Needs.{needs}
 use Rattle.columns.proofs.weather.Statement.{statement}
 use Rattle.columns.proofs.weather.Tie as tie
 
-part-requires : tie.Need-part-requires
-part-requires c κs = search needs
-
 returns : tie.Need-returns
 unfolding cells cellsFrom cellOf bonds bondsFrom inside after page
 returns c = λ z. each _ (c .part .ensures z One refl) (c .part .ensures z Three refl) (c .part .ensures z Four refl)
 
 pub weather-spec : {M : Type 1} → statement M
-weather-spec = tie.close (tie.spec part-requires returns)
+weather-spec = tie.close (tie.spec (λ c κs. search needs) returns)

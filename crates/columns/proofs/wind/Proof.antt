@@ -8,12 +8,9 @@ use borrow.Author.Needs.{needs}
 use Rattle.columns.proofs.wind.Statement.{statement}
 use Rattle.columns.proofs.wind.Tie as tie
 
-part-requires : tie.Need-part-requires
-part-requires c κs = search needs
-
 returns : tie.Need-returns
 unfolding cells cellsFrom cellOf bonds bondsFrom inside after page
 returns c = λ z. each _ (c .part .ensures z One refl) (c .part .ensures z Three refl) (c .part .ensures z Four refl)
 
 pub wind-spec : {M : Type 1} → statement M
-wind-spec = tie.close (tie.spec part-requires returns)
+wind-spec = tie.close (tie.spec (λ c κs. search needs) returns)

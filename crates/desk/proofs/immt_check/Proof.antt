@@ -6,19 +6,10 @@ use mathlib.Core.Path.{_∙_, ap, sym}
 use Rattle.desk.proofs.immt_check.Statement.{statement}
 use Rattle.desk.proofs.immt_check.Tie as tie
 
-check-requires : tie.Need-check-requires
-check-requires c κs = search needs
-
-place-requires : tie.Need-place-requires
-place-requires c κs = search needs
-
-number-requires : tie.Need-number-requires
-number-requires c κs = search needs
-
 returns : tie.Need-returns
 returns c =
     let answer = c .before .before .check .ensures ∙ sym (checks _) in
     (c .number .ensures ∙ ap answerNumber answer, c .before .place .ensures ∙ ap answerPlace answer)
 
 pub immt-check-spec : {M : Type 1} → statement M
-immt-check-spec = tie.close (tie.spec check-requires place-requires number-requires returns)
+immt-check-spec = tie.close (tie.spec (λ c κs. search needs) (λ c κs. search needs) (λ c κs. search needs) returns)

@@ -6,21 +6,6 @@ use mathlib.Core.Path.{_∙_, ap}
 use Rattle.desk.proofs.immt_recast.Statement.{statement}
 use Rattle.desk.proofs.immt_recast.Tie as tie
 
-recast-requires : tie.Need-recast-requires
-recast-requires c κs = search needs
-
-place-requires : tie.Need-place-requires
-place-requires c κs = search needs
-
-losses-requires : tie.Need-losses-requires
-losses-requires c κs = search needs
-
-number-requires : tie.Need-number-requires
-number-requires c κs = search needs
-
-same-length : tie.Need-same-length
-same-length c = search needs
-
 returns : tie.Need-returns
 returns c =
     let answer = c .before .before .before .before .before .recast .ensures .0 in
@@ -35,4 +20,4 @@ returns c =
 pub immt-recast-spec : {M : Type 1} → statement M
 immt-recast-spec =
     tie.close
-    (tie.spec recast-requires place-requires losses-requires number-requires same-length returns)
+    (tie.spec (λ c κs. search needs) (λ c κs. search needs) (λ c κs. search needs) (λ c κs. search needs) (λ c. search needs) returns)

@@ -4,27 +4,6 @@ use borrow.Author.Needs.{needs}
 use Rattle.glance.proofs.alike.Statement.{statement}
 use Rattle.glance.proofs.alike.Tie as tie
 
-dates-off-requires : tie.Need-dates-off-requires
-dates-off-requires c κs = search needs
-
-places-off-requires : tie.Need-places-off-requires
-places-off-requires c κs = search needs
-
-winds-off-requires : tie.Need-winds-off-requires
-winds-off-requires c κs = search needs
-
-falls-off-requires : tie.Need-falls-off-requires
-falls-off-requires c κs = search needs
-
-codes-off-requires : tie.Need-codes-off-requires
-codes-off-requires c κs = search needs
-
-temperatures-requires : tie.Need-temperatures-requires
-temperatures-requires c κs = search needs
-
-day-off-requires : tie.Need-day-off-requires
-day-off-requires c κs = search needs
-
 returns : tie.Need-returns
 returns c =
     let t = c .before in
@@ -33,4 +12,4 @@ returns c =
 
 pub alike-spec : {M : Type 1} → statement M
 alike-spec =
-    tie.close (tie.spec dates-off-requires places-off-requires winds-off-requires falls-off-requires codes-off-requires temperatures-requires day-off-requires returns)
+    tie.close (tie.spec (λ c κs. search needs) (λ c κs. search needs) (λ c κs. search needs) (λ c κs. search needs) (λ c κs. search needs) (λ c κs. search needs) (λ c κs. search needs) returns)

@@ -5,15 +5,9 @@ use borrow.Author.Needs.{needs}
 use Rattle.glance.proofs.alone.Statement.{statement}
 use Rattle.glance.proofs.alone.Tie as tie
 
-other-requires : tie.Need-other-requires
-other-requires c κs = search needs
-
-equal-requires : tie.Need-equal-requires
-equal-requires c κs = search needs
-
 returns : tie.Need-returns
 unfolding needed
 returns c = either-of _ _ (c .before .other .ensures) (c .equal .ensures)
 
 pub alone-spec : {M : Type 1} → statement M
-alone-spec = tie.close (tie.spec other-requires equal-requires returns)
+alone-spec = tie.close (tie.spec (λ c κs. search needs) (λ c κs. search needs) returns)

@@ -17,14 +17,8 @@ use Rattle.glance.proofs.codes_off.Tie as tie
 first-byte-requires : tie.Need-first-byte-requires
 first-byte-requires c κs = omega (arith, begins One 1 (lit≤ tt) (lit≤ tt))
 
-equal-requires : tie.Need-equal-requires
-equal-requires c κs = search needs
-
 first-byte-requires-2 : tie.Need-first-byte-requires-2
 first-byte-requires-2 c κs = omega (arith, begins One 46 (lit≤ tt) (lit≤ tt))
-
-one-of-requires : tie.Need-one-of-requires
-one-of-requires c κs = search needs
 
 returns : tie.Need-returns
 returns c = λ z.
@@ -33,4 +27,4 @@ returns c = λ z.
     (not-true _ (r .0), r .1)
 
 pub codes-off-spec : {M : Type 1} → statement M
-codes-off-spec = tie.close (tie.spec first-byte-requires equal-requires first-byte-requires-2 one-of-requires returns)
+codes-off-spec = tie.close (tie.spec first-byte-requires (λ c κs. search needs) first-byte-requires-2 (λ c κs. search needs) returns)

@@ -16,11 +16,8 @@ word-of-requires c κs = omega (arith, ends One 3 (lit≤ tt))
 word-of-requires-2 : tie.Need-word-of-requires-2
 word-of-requires-2 c κs = omega (arith, ends One 4 (lit≤ tt))
 
-rare-requires : tie.Need-rare-requires
-rare-requires c κs = search needs
-
 returns : tie.Need-returns
 returns c = λ z. ap₂ common (sym (c .before .before .word-of .ensures)) (sym (c .before .word-of2 .ensures)) ∙ passed _ (c .rare .ensures) z
 
 pub day-off-spec : {M : Type 1} → statement M
-day-off-spec = tie.close (tie.spec word-of-requires word-of-requires-2 rare-requires returns)
+day-off-spec = tie.close (tie.spec word-of-requires word-of-requires-2 (λ c κs. search needs) returns)

@@ -17,15 +17,6 @@ returns c = λ ed e. none-said ed e
 first-byte-requires : tie.Need-first-byte-requires
 first-byte-requires c κs = omega (arith, begins One 65 (lit≤ tt) (lit≤ tt))
 
-of-digit-requires : tie.Need-of-digit-requires
-of-digit-requires c κs = search needs
-
-enum-known-edition : tie.Need-enum-known-edition
-enum-known-edition c = search needs
-
-length-requires : tie.Need-length-requires
-length-requires c κs = search needs
-
 returns-2 : tie.Need-returns-2
 returns-2 c = λ ed e. none-said ed e
 
@@ -36,9 +27,6 @@ is-sure-requires c κs =
 
 returns-3 : tie.Need-returns-3
 returns-3 c = λ ed e. none-said ed e
-
-enum-told : tie.Need-enum-told
-enum-told c = search needs
 
 returns-4 : tie.Need-returns-4
 returns-4 c = λ ed e.
@@ -53,12 +41,12 @@ edition-of-spec =
     (tie.spec
     returns
     first-byte-requires
-    of-digit-requires
-    enum-known-edition
-    length-requires
+    (λ c κs. search needs)
+    (λ c. search needs)
+    (λ c κs. search needs)
     returns-2
     is-sure-requires
     returns-3
-    enum-told
+    (λ c. search needs)
     returns-4
     returns-5)

@@ -19,14 +19,8 @@ alike-requires c κs = omega (arith, c .before .before .pre .0, shortest (c .bef
 returns : tie.Need-returns
 returns c = λ e. absurd (true≢false (sym e))
 
-own-requires : tie.Need-own-requires
-own-requires c κs = search needs
-
 returns-2 : tie.Need-returns-2
 returns-2 c = λ e. absurd (true≢false (sym e))
-
-rest-requires : tie.Need-rest-requires
-rest-requires c κs = search needs
 
 returns-3 : tie.Need-returns-3
 returns-3 c = λ e.
@@ -45,7 +39,7 @@ is-sure-spec =
     shared-requires
     alike-requires
     returns
-    own-requires
+    (λ c κs. search needs)
     returns-2
-    rest-requires
+    (λ c κs. search needs)
     returns-3)

@@ -12,23 +12,14 @@ use borrow.Author.Needs.{needs}
 use Rattle.glance.proofs.later_off.Statement.{statement}
 use Rattle.glance.proofs.later_off.Tie as tie
 
-courses-off-requires : tie.Need-courses-off-requires
-courses-off-requires c κs = search needs
-
 first-byte-requires : tie.Need-first-byte-requires
 first-byte-requires c κs = has-first Three (c .before .before .args .line .now) (omega arith) _ (lit≤ tt) (lit≤ tt)
-
-one-of-requires : tie.Need-one-of-requires
-one-of-requires c κs = search needs
 
 first-byte-requires-2 : tie.Need-first-byte-requires-2
 first-byte-requires-2 c κs = has-first Three (c .before .before .before .before .args .line .now) (omega arith) _ (lit≤ tt) (lit≤ tt)
 
 first-byte-requires-3 : tie.Need-first-byte-requires-3
 first-byte-requires-3 c κs = has-first Three (c .before .before .before .before .before .args .line .now) (omega arith) _ (lit≤ tt) (lit≤ tt)
-
-alone-requires : tie.Need-alone-requires
-alone-requires c κs = search needs
 
 returns : tie.Need-returns
 returns c =
@@ -39,4 +30,4 @@ returns c =
     (passed _ (c .alone .ensures ∙ ap₂ (λ (b w : ℕ). no (Tests.needs b w)) (speed .first-byte2 .ensures) (c .before .first-byte3 .ensures))))
 
 pub later-off-spec : {M : Type 1} → statement M
-later-off-spec = tie.close (tie.spec courses-off-requires first-byte-requires one-of-requires first-byte-requires-2 first-byte-requires-3 alone-requires returns)
+later-off-spec = tie.close (tie.spec (λ c κs. search needs) first-byte-requires (λ c κs. search needs) first-byte-requires-2 first-byte-requires-3 (λ c κs. search needs) returns)

@@ -5,15 +5,9 @@ use borrow.Author.Needs.{needs}
 use Rattle.glance.proofs.minus_zero.Statement.{statement}
 use Rattle.glance.proofs.minus_zero.Tie as tie
 
-same-requires : tie.Need-same-requires
-same-requires c κs = search needs
-
-same-requires-2 : tie.Need-same-requires-2
-same-requires-2 c κs = search needs
-
 returns : tie.Need-returns
 unfolding plusZero
 returns c = both _ _ (c .before .same .ensures) (c .same2 .ensures)
 
 pub minus-zero-spec : {M : Type 1} → statement M
-minus-zero-spec = tie.close (tie.spec same-requires same-requires-2 returns)
+minus-zero-spec = tie.close (tie.spec (λ c κs. search needs) (λ c κs. search needs) returns)

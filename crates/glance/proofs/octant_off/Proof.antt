@@ -17,15 +17,6 @@ passing : (octant longitude : ℕ) {r : ℕ} → far octant ≡ false → r ≡ 
 unfolding octantNear
 passing octant longitude e g = rw e g
 
-is-among-requires : tie.Need-is-among-requires
-is-among-requires c κs = search needs
-
-above-requires : tie.Need-above-requires
-above-requires c κs = search needs
-
-above-requires-2 : tie.Need-above-requires-2
-above-requires-2 c κs = search needs
-
 returns : tie.Need-returns
 returns c = reaching _ _ (sym (c .before .before .is-among .ensures) ∙ c .before .if1 .taken) (c .above .ensures)
 
@@ -34,4 +25,4 @@ returns-2 c = passing _ _ (sym (c .before .before .is-among .ensures) ∙ c .bef
 
 pub octant-off-spec : {M : Type 1} → statement M
 octant-off-spec =
-    tie.close (tie.spec is-among-requires above-requires above-requires-2 returns returns-2)
+    tie.close (tie.spec (λ c κs. search needs) (λ c κs. search needs) (λ c κs. search needs) returns returns-2)

@@ -6,14 +6,8 @@ use borrow.Author.Needs.{needs}
 use Rattle.glance.proofs.off.Statement.{statement}
 use Rattle.glance.proofs.off.Tie as tie
 
-word-of-requires : tie.Need-word-of-requires
-word-of-requires c κs = search needs
-
-beyond-requires : tie.Need-beyond-requires
-beyond-requires c κs = search needs
-
 returns : tie.Need-returns
 returns c = λ z. ap (inLimit _ _ _) (sym (c .before .word-of .ensures)) ∙ passed _ (c .beyond .ensures) z
 
 pub off-spec : {M : Type 1} → statement M
-off-spec = tie.close (tie.spec word-of-requires beyond-requires returns)
+off-spec = tie.close (tie.spec (λ c κs. search needs) (λ c κs. search needs) returns)

@@ -5,15 +5,9 @@ use borrow.Author.Needs.{needs}
 use Rattle.glance.proofs.one_of.Statement.{statement}
 use Rattle.glance.proofs.one_of.Tie as tie
 
-equal-requires : tie.Need-equal-requires
-equal-requires c κs = search needs
-
-equal-requires-2 : tie.Need-equal-requires-2
-equal-requires-2 c κs = search needs
-
 returns : tie.Need-returns
 unfolding neither
 returns c = both _ _ (c .before .equal .ensures) (c .equal2 .ensures)
 
 pub one-of-spec : {M : Type 1} → statement M
-one-of-spec = tie.close (tie.spec equal-requires equal-requires-2 returns)
+one-of-spec = tie.close (tie.spec (λ c κs. search needs) (λ c κs. search needs) returns)

@@ -5,27 +5,6 @@ use borrow.Author.Needs.{needs}
 use Rattle.glance.proofs.rare.Statement.{statement}
 use Rattle.glance.proofs.rare.Tie as tie
 
-above-requires : tie.Need-above-requires
-above-requires c κs = search needs
-
-same-requires : tie.Need-same-requires
-same-requires c κs = search needs
-
-above-requires-2 : tie.Need-above-requires-2
-above-requires-2 c κs = search needs
-
-same-requires-2 : tie.Need-same-requires-2
-same-requires-2 c κs = search needs
-
-same-requires-3 : tie.Need-same-requires-3
-same-requires-3 c κs = search needs
-
-same-requires-4 : tie.Need-same-requires-4
-same-requires-4 c κs = search needs
-
-same-requires-5 : tie.Need-same-requires-5
-same-requires-5 c κs = search needs
-
 returns : tie.Need-returns
 unfolding common
 returns c =
@@ -38,4 +17,4 @@ returns c =
 
 pub rare-spec : {M : Type 1} → statement M
 rare-spec =
-    tie.close (tie.spec above-requires same-requires above-requires-2 same-requires-2 same-requires-3 same-requires-4 same-requires-5 returns)
+    tie.close (tie.spec (λ c κs. search needs) (λ c κs. search needs) (λ c κs. search needs) (λ c κs. search needs) (λ c κs. search needs) (λ c κs. search needs) (λ c κs. search needs) returns)

@@ -13,26 +13,14 @@ use borrow.Author.Needs.{needs}
 use Rattle.glance.proofs.rest.Statement.{statement}
 use Rattle.glance.proofs.rest.Tie as tie
 
-enum-told : tie.Need-enum-told
-enum-told c = search needs
-
 first-byte-requires : tie.Need-first-byte-requires
 first-byte-requires c κs = let start = c .before .before .before in omega (arith, start .pre, begins (start .args .edition) 6 (lit≤ tt) (omega (arith, last-above (start .args .edition))))
 
 word-of-requires : tie.Need-word-of-requires
 word-of-requires c κs = let start = c .before .before .before .before in omega (arith, start .pre, ends (start .args .edition) 8 (omega (arith, last-above (start .args .edition))))
 
-octant-off-requires : tie.Need-octant-off-requires
-octant-off-requires c κs = search needs
-
-enum-told-2 : tie.Need-enum-told-2
-enum-told-2 c = search needs
-
 later-off-requires : tie.Need-later-off-requires
 later-off-requires c κs = c .before .before .before .pre ∙ ap lengthOf (c .enum-told2 .given .1)
-
-enum-told-3 : tie.Need-enum-told-3
-enum-told-3 c = search needs
 
 later-off-requires-2 : tie.Need-later-off-requires-2
 later-off-requires-2 c κs = c .before .before .before .pre ∙ ap lengthOf (c .enum-told3 .given .1)
@@ -54,13 +42,13 @@ pub rest-spec : {M : Type 1} → statement M
 rest-spec =
     tie.close
     (tie.spec
-    enum-told
+    (λ c. search needs)
     first-byte-requires
     word-of-requires
-    octant-off-requires
-    enum-told-2
+    (λ c κs. search needs)
+    (λ c. search needs)
     later-off-requires
-    enum-told-3
+    (λ c. search needs)
     later-off-requires-2
     returns
     returns-2

@@ -12,39 +12,6 @@ use borrow.Author.Needs.{needs}
 use Rattle.glance.proofs.temperature.Statement.{statement}
 use Rattle.glance.proofs.temperature.Tie as tie
 
-start-of-requires : tie.Need-start-of-requires
-start-of-requires c κs = search needs
-
-backwards-requires : tie.Need-backwards-requires
-backwards-requires c κs = search needs
-
-minus-zero-requires : tie.Need-minus-zero-requires
-minus-zero-requires c κs = search needs
-
-shared-slice-read-past : tie.Need-shared-slice-read-past
-shared-slice-read-past c = search needs
-
-past-requires : tie.Need-past-requires
-past-requires c κs = search needs
-
-add-past : tie.Need-add-past
-add-past c = search needs
-
-shared-slice-read-past-2 : tie.Need-shared-slice-read-past-2
-shared-slice-read-past-2 c = search needs
-
-past-requires-2 : tie.Need-past-requires-2
-past-requires-2 c κs = search needs
-
-add-other : tie.Need-add-other
-add-other c = search needs
-
-shared-slice-read-other : tie.Need-shared-slice-read-other
-shared-slice-read-other c = search needs
-
-other-requires : tie.Need-other-requires
-other-requires c κs = search needs
-
 returns : tie.Need-returns
 unfolding lastFits
 returns c = λ z.
@@ -64,15 +31,15 @@ pub temperature-spec : {M : Type 1} → statement M
 temperature-spec =
     tie.close
     (tie.spec
-    start-of-requires
-    backwards-requires
-    minus-zero-requires
-    shared-slice-read-past
-    past-requires
-    add-past
-    shared-slice-read-past-2
-    past-requires-2
-    add-other
-    shared-slice-read-other
-    other-requires
+    (λ c κs. search needs)
+    (λ c κs. search needs)
+    (λ c κs. search needs)
+    (λ c. search needs)
+    (λ c κs. search needs)
+    (λ c. search needs)
+    (λ c. search needs)
+    (λ c κs. search needs)
+    (λ c. search needs)
+    (λ c. search needs)
+    (λ c κs. search needs)
     returns)

@@ -22,14 +22,8 @@ degrees {xs} {e} {top} {half} t h d = subst (λ (n : ℕ). Temperature xs e (top
 first-byte-requires : tie.Need-first-byte-requires
 first-byte-requires c κs = omega (arith, begins One 1 (lit≤ tt) (lit≤ tt))
 
-top-digit-requires : tie.Need-top-digit-requires
-top-digit-requires c κs = search needs
-
 first-byte-requires-2 : tie.Need-first-byte-requires-2
 first-byte-requires-2 c κs = omega (arith, begins One 1 (lit≤ tt) (lit≤ tt))
-
-half-digit-requires : tie.Need-half-digit-requires
-half-digit-requires c κs = search needs
 
 temperature-requires : tie.Need-temperature-requires
 unfolding startOf columns page
@@ -60,4 +54,4 @@ returns c = λ z.
 pub temperatures-spec : {M : Type 1} → statement M
 temperatures-spec =
     tie.close
-    (tie.spec first-byte-requires top-digit-requires first-byte-requires-2 half-digit-requires temperature-requires temperature-requires-2 temperature-requires-3 temperature-requires-4 returns)
+    (tie.spec first-byte-requires (λ c κs. search needs) first-byte-requires-2 (λ c κs. search needs) temperature-requires temperature-requires-2 temperature-requires-3 temperature-requires-4 returns)

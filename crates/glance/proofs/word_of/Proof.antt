@@ -5,14 +5,8 @@ use borrow.Author.Needs.{needs}
 use Rattle.glance.proofs.word_of.Statement.{statement}
 use Rattle.glance.proofs.word_of.Tie as tie
 
-full-text-requires : tie.Need-full-text-requires
-full-text-requires c κs = search needs
-
-word-of-requires : tie.Need-word-of-requires
-word-of-requires c κs = search needs
-
 returns : tie.Need-returns
 returns c = c .word-of .ensures ∙ ap word (c .before .full-text .ensures .0)
 
 pub word-of-spec : {M : Type 1} → statement M
-word-of-spec = tie.close (tie.spec full-text-requires word-of-requires returns)
+word-of-spec = tie.close (tie.spec (λ c κs. search needs) (λ c κs. search needs) returns)

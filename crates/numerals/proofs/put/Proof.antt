@@ -23,29 +23,14 @@ digit c = mod-lt _ (c .before .before .pre .1 .0)
 loop-holds : tie.Need-loop-holds Inv-loop μ-loop
 loop-holds c = (refl, (search needs, refl))
 
-sub-k : tie.Need-sub-k Inv-loop μ-loop
-sub-k c = search needs
-
-rem-buffer : tie.Need-rem-buffer Inv-loop μ-loop
-rem-buffer c = search needs
-
 add-buffer : tie.Need-add-buffer Inv-loop μ-loop
 add-buffer c = omega (arith, digit c)
 
 cast-buffer : tie.Need-cast-buffer Inv-loop μ-loop
 cast-buffer c = omega (arith, digit c)
 
-add-buffer-2 : tie.Need-add-buffer-2 Inv-loop μ-loop
-add-buffer-2 c = search needs
-
 slice-write-buffer : tie.Need-slice-write-buffer Inv-loop μ-loop
 slice-write-buffer c = omega arith
-
-div-n : tie.Need-div-n Inv-loop μ-loop
-div-n c = search needs
-
-loop-less : tie.Need-loop-less Inv-loop μ-loop
-loop-less c = search needs
 
 loop-again : tie.Need-loop-again Inv-loop μ-loop
 loop-again c = (
@@ -66,14 +51,14 @@ put-spec =
     Inv-loop
     μ-loop
     loop-holds
-    sub-k
-    rem-buffer
+    (λ c. search needs)
+    (λ c. search needs)
     add-buffer
     cast-buffer
-    add-buffer-2
+    (λ c. search needs)
     slice-write-buffer
-    div-n
-    loop-less
+    (λ c. search needs)
+    (λ c. search needs)
     loop-again
     same-length
     returns)

@@ -7,14 +7,8 @@ use Rattle.places.proofs.gives_west.Tie as tie
 returns : tie.Need-returns
 returns c = west-far _ _ (c .if1 .taken)
 
-cast-is-west : tie.Need-cast-is-west
-cast-is-west c = search needs
-
-is-west-requires : tie.Need-is-west-requires
-is-west-requires c κs = search needs
-
 returns-2 : tie.Need-returns-2
 returns-2 c = c .is-west .ensures
 
 pub gives-west-spec : {M : Type 1} → statement M
-gives-west-spec = tie.close (tie.spec returns cast-is-west is-west-requires returns-2)
+gives-west-spec = tie.close (tie.spec returns (λ c. search needs) (λ c κs. search needs) returns-2)

@@ -11,21 +11,6 @@ use Rattle.places.proofs.is_south.Tie as tie
 at-edition : {a b : Edition} (digit : ℕ) → a ≡ b → south b digit ≡ south a digit
 at-edition digit e = sym (ap (λ (ed : Edition). south ed digit) e)
 
-enum-told : tie.Need-enum-told
-enum-told c = search needs
-
-enum-told-2 : tie.Need-enum-told-2
-enum-told-2 c = search needs
-
-is-among-requires : tie.Need-is-among-requires
-is-among-requires c κs = search needs
-
-enum-told-3 : tie.Need-enum-told-3
-enum-told-3 c = search needs
-
-is-among-requires-2 : tie.Need-is-among-requires-2
-is-among-requires-2 c κs = search needs
-
 returns : tie.Need-returns
 unfolding south
 returns c = at-edition _ (c .enum-told .given .1)
@@ -41,4 +26,4 @@ returns-3 c = c .is-among2 .ensures ∙ at-edition _ (c .before .enum-told3 .giv
 pub is-south-spec : {M : Type 1} → statement M
 is-south-spec =
     tie.close
-    (tie.spec enum-told enum-told-2 is-among-requires enum-told-3 is-among-requires-2 returns returns-2 returns-3)
+    (tie.spec (λ c. search needs) (λ c. search needs) (λ c κs. search needs) (λ c. search needs) (λ c κs. search needs) returns returns-2 returns-3)

@@ -11,24 +11,6 @@ use Rattle.places.proofs.is_west.Tie as tie
 at-edition : {a b : Edition} (digit : ℕ) → a ≡ b → west b digit ≡ west a digit
 at-edition digit e = sym (ap (λ (ed : Edition). west ed digit) e)
 
-enum-told : tie.Need-enum-told
-enum-told c = search needs
-
-is-among-requires : tie.Need-is-among-requires
-is-among-requires c κs = search needs
-
-enum-told-2 : tie.Need-enum-told-2
-enum-told-2 c = search needs
-
-is-among-requires-2 : tie.Need-is-among-requires-2
-is-among-requires-2 c κs = search needs
-
-enum-told-3 : tie.Need-enum-told-3
-enum-told-3 c = search needs
-
-is-among-requires-3 : tie.Need-is-among-requires-3
-is-among-requires-3 c κs = search needs
-
 returns : tie.Need-returns
 unfolding west
 returns c = c .is-among .ensures ∙ at-edition _ (c .before .enum-told .given .1)
@@ -44,4 +26,4 @@ returns-3 c = c .is-among3 .ensures ∙ at-edition _ (c .before .enum-told3 .giv
 pub is-west-spec : {M : Type 1} → statement M
 is-west-spec =
     tie.close
-    (tie.spec enum-told is-among-requires enum-told-2 is-among-requires-2 enum-told-3 is-among-requires-3 returns returns-2 returns-3)
+    (tie.spec (λ c. search needs) (λ c κs. search needs) (λ c. search needs) (λ c κs. search needs) (λ c. search needs) (λ c κs. search needs) returns returns-2 returns-3)

@@ -7,12 +7,6 @@ use mathlib.Core.Path.{_∙_, ap}
 use Rattle.places.proofs.latitude_figure.Statement.{statement}
 use Rattle.places.proofs.latitude_figure.Tie as tie
 
-magnitude-requires : tie.Need-magnitude-requires
-magnitude-requires c κs = search needs
-
-tenths-of-requires : tie.Need-tenths-of-requires
-tenths-of-requires c κs = search needs
-
 returns : tie.Need-returns
 unfolding latitudeFigure
 returns c =
@@ -20,4 +14,4 @@ returns c =
     c .tenths-of .ensures ∙ ap tenths (far .magnitude .ensures .0 ∙ ap natAbs (itself (far .before .before .args .place .latitude) (record { sfits = far .before .struct-told .given .0 .1 })))
 
 pub latitude-figure-spec : {M : Type 1} → statement M
-latitude-figure-spec = tie.close (tie.spec magnitude-requires tenths-of-requires returns)
+latitude-figure-spec = tie.close (tie.spec (λ c κs. search needs) (λ c κs. search needs) returns)

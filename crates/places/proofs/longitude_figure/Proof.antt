@@ -6,15 +6,6 @@ use mathlib.Core.Path.{_∙_, ap}
 use Rattle.places.proofs.longitude_figure.Statement.{statement}
 use Rattle.places.proofs.longitude_figure.Tie as tie
 
-gives-west-requires : tie.Need-gives-west-requires
-gives-west-requires c κs = search needs
-
-east-of-requires : tie.Need-east-of-requires
-east-of-requires c κs = search needs
-
-tenths-of-requires : tie.Need-tenths-of-requires
-tenths-of-requires c κs = search needs
-
 returns : tie.Need-returns
 unfolding longitudeFigure
 returns c =
@@ -22,4 +13,4 @@ returns c =
     c .tenths-of .ensures ∙ ap tenths (turned .east-of .ensures ∙ ap (λ (b : Bool). east b (turned .before .before .args .place .longitude)) (turned .before .gives-west .ensures))
 
 pub longitude-figure-spec : {M : Type 1} → statement M
-longitude-figure-spec = tie.close (tie.spec gives-west-requires east-of-requires tenths-of-requires returns)
+longitude-figure-spec = tie.close (tie.spec (λ c κs. search needs) (λ c κs. search needs) (λ c κs. search needs) returns)

@@ -5,9 +5,6 @@ use mathlib.Core.Path.{_∙_, sym}
 use Rattle.places.proofs.octant_fits.Statement.{statement}
 use Rattle.places.proofs.octant_fits.Tie as tie
 
-is-among-requires : tie.Need-is-among-requires
-is-among-requires c κs = search needs
-
 returns : tie.Need-returns
 unfolding octantFits
 returns c = rw (sym (c .before .is-among .ensures) ∙ c .if1 .taken)
@@ -17,4 +14,4 @@ unfolding octantFits
 returns-2 c = rw (sym (c .before .is-among .ensures) ∙ c .if1 .left)
 
 pub octant-fits-spec : {M : Type 1} → statement M
-octant-fits-spec = tie.close (tie.spec is-among-requires returns returns-2)
+octant-fits-spec = tie.close (tie.spec (λ c κs. search needs) returns returns-2)

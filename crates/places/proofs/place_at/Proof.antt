@@ -7,27 +7,6 @@ use borrow.Author.Needs.{needs}
 use Rattle.places.proofs.place_at.Statement.{statement}
 use Rattle.places.proofs.place_at.Tie as tie
 
-is-south-requires : tie.Need-is-south-requires
-is-south-requires c κs = search needs
-
-hundredths-of-requires : tie.Need-hundredths-of-requires
-hundredths-of-requires c κs = search needs
-
-signed-of-requires : tie.Need-signed-of-requires
-signed-of-requires c κs = search needs
-
-is-west-requires : tie.Need-is-west-requires
-is-west-requires c κs = search needs
-
-hundredths-of-requires-2 : tie.Need-hundredths-of-requires-2
-hundredths-of-requires-2 c κs = search needs
-
-east-of-requires : tie.Need-east-of-requires
-east-of-requires c κs = search needs
-
-wide-requires : tie.Need-wide-requires
-wide-requires c κs = search needs
-
 returns : tie.Need-returns
 returns c =
     let east = c .before in
@@ -40,4 +19,4 @@ returns c =
 pub place-at-spec : {M : Type 1} → statement M
 place-at-spec =
     tie.close
-    (tie.spec is-south-requires hundredths-of-requires signed-of-requires is-west-requires hundredths-of-requires-2 east-of-requires wide-requires returns)
+    (tie.spec (λ c κs. search needs) (λ c κs. search needs) (λ c κs. search needs) (λ c κs. search needs) (λ c κs. search needs) (λ c κs. search needs) (λ c κs. search needs) returns)

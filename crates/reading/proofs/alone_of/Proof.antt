@@ -4,17 +4,11 @@ use borrow.Author.Tests.{eq-eqb, ne-eqb}
 use Rattle.reading.proofs.alone_of.Statement.{statement}
 use Rattle.reading.proofs.alone_of.Tie as tie
 
-departure-of-requires : tie.Need-departure-of-requires
-departure-of-requires c κs = search needs
-
 returns : tie.Need-returns
 returns c = rw (eq-eqb _ _ (c .before .if1 .taken)) (c .departure-of .ensures)
-
-plain-of-requires : tie.Need-plain-of-requires
-plain-of-requires c κs = search needs
 
 returns-2 : tie.Need-returns-2
 returns-2 c = rw (ne-eqb _ _ (c .before .if1 .left)) (c .plain-of .ensures)
 
 pub alone-of-spec : {M : Type 1} → statement M
-alone-of-spec = tie.close (tie.spec departure-of-requires returns plain-of-requires returns-2)
+alone-of-spec = tie.close (tie.spec (λ c κs. search needs) returns (λ c κs. search needs) returns-2)

@@ -5,15 +5,6 @@ use lib.Dec.{lit≤}
 use Rattle.reading.proofs.column_of.Statement.{statement}
 use Rattle.reading.proofs.column_of.Tie as tie
 
-strays-requires : tie.Need-strays-requires
-strays-requires c κs = search needs
-
-digit-of-requires : tie.Need-digit-of-requires
-digit-of-requires c κs = search needs
-
-wide-requires : tie.Need-wide-requires
-wide-requires c κs = search needs
-
 returns : tie.Need-returns
 returns c = column-missing _ (c .if1 .taken)
 
@@ -27,4 +18,4 @@ returns-3 c =
     column-code _ (first .if1 .left) _ (code .before .before .strays .ensures (lit≤ tt)) (c .if2 .left) _ _ (code .before .digit-of .ensures) (code .wide .ensures)
 
 pub column-of-spec : {M : Type 1} → statement M
-column-of-spec = tie.close (tie.spec strays-requires digit-of-requires wide-requires returns returns-2 returns-3)
+column-of-spec = tie.close (tie.spec (λ c κs. search needs) (λ c κs. search needs) (λ c κs. search needs) returns returns-2 returns-3)

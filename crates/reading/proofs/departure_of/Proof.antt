@@ -7,20 +7,8 @@ use mir.Syntax.{w64}
 use Rattle.reading.proofs.departure_of.Statement.{statement}
 use Rattle.reading.proofs.departure_of.Tie as tie
 
-is-blank-requires : tie.Need-is-blank-requires
-is-blank-requires c κs = search needs
-
 returns : tie.Need-returns
 returns c = no-departure _ _ (c .before .is-blank .ensures) (c .if1 .taken)
-
-number-of-requires : tie.Need-number-of-requires
-number-of-requires c κs = search needs
-
-wide-requires : tie.Need-wide-requires
-wide-requires c κs = search needs
-
-signed-of-requires : tie.Need-signed-of-requires
-signed-of-requires c κs = search needs
 
 returns-2 : tie.Need-returns-2
 returns-2 c =
@@ -31,4 +19,4 @@ returns-2 c =
 
 pub departure-of-spec : {M : Type 1} → statement M
 departure-of-spec =
-    tie.close (tie.spec is-blank-requires returns number-of-requires wide-requires signed-of-requires returns-2)
+    tie.close (tie.spec (λ c κs. search needs) returns (λ c κs. search needs) (λ c κs. search needs) (λ c κs. search needs) returns-2)

@@ -4,9 +4,6 @@ use borrow.Author.Tests.{eq-eqb, ne-eqb}
 use Rattle.reading.proofs.is_leading.Statement.{statement}
 use Rattle.reading.proofs.is_leading.Tie as tie
 
-is-sign-requires : tie.Need-is-sign-requires
-is-sign-requires c κs = search needs
-
 returns : tie.Need-returns
 returns c = rw (eq-eqb _ _ (c .if1 .taken))
 
@@ -14,4 +11,4 @@ returns-2 : tie.Need-returns-2
 returns-2 c = rw (ne-eqb _ _ (c .before .if1 .left)) (c .is-sign .ensures)
 
 pub is-leading-spec : {M : Type 1} → statement M
-is-leading-spec = tie.close (tie.spec is-sign-requires returns returns-2)
+is-leading-spec = tie.close (tie.spec (λ c κs. search needs) returns returns-2)

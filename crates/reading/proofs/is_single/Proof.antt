@@ -9,19 +9,13 @@ use native.Mathlib.Omega.{arith}
 use Rattle.reading.proofs.is_single.Statement.{statement}
 use Rattle.reading.proofs.is_single.Tie as tie
 
-shr-result : tie.Need-shr-result
-shr-result c = search needs
-
 returns : tie.Need-returns
 unfolding element page
 returns c = told _ 0 64 refl _ _ (zero-add _) (c .if1 .taken)
-
-shr-result-2 : tie.Need-shr-result-2
-shr-result-2 c = search needs
 
 returns-2 : tie.Need-returns-2
 unfolding element page
 returns-2 c = told _ 64 38 refl (c .before .args .e) (c .before .args .e - 64) (omega (arith, c .if1 .left)) (omega (arith, c .before .pre))
 
 pub is-single-spec : {M : Type 1} → statement M
-is-single-spec = tie.close (tie.spec shr-result returns shr-result-2 returns-2)
+is-single-spec = tie.close (tie.spec (λ c. search needs) returns (λ c. search needs) returns-2)

@@ -39,38 +39,14 @@ starts-last c = ap (λ (n : ℕ). n + c .width-of4 .result) (starts (two (c .bef
 third : (c : tie.After-columns3) → now (c .columns3 .result) ≡ textOf 8 (now (start (two (c .before .before .before)) .args .line))
 third c = own-columns _ _ _ _ _ (starts-last (c .before .before)) (c .before .width-of5 .ensures) (c .columns3 .ensures .0)
 
-width-of-requires : tie.Need-width-of-requires
-width-of-requires c κs = search needs
-
-columns-requires : tie.Need-columns-requires
-columns-requires c κs = search needs
-
-width-of-requires-2 : tie.Need-width-of-requires-2
-width-of-requires-2 c κs = search needs
-
 add-next : tie.Need-add-next
 add-next c = let e = low c in omega (arith, starts c, start-below (start c .args .e + 1) (omega arith))
 
 add-width-of : tie.Need-add-width-of
 add-width-of c = let e = low c in omega arith
 
-width-of-requires-3 : tie.Need-width-of-requires-3
-width-of-requires-3 c κs = search needs
-
-columns-requires-2 : tie.Need-columns-requires-2
-columns-requires-2 c κs = search needs
-
-width-of-requires-4 : tie.Need-width-of-requires-4
-width-of-requires-4 c κs = search needs
-
 add-last : tie.Need-add-last
 add-last c = omega (arith, starts-last c, start-below 8 (lit≤ tt))
-
-width-of-requires-5 : tie.Need-width-of-requires-5
-width-of-requires-5 c κs = search needs
-
-columns-requires-3 : tie.Need-columns-requires-3
-columns-requires-3 c κs = search needs
 
 place-of-requires : tie.Need-place-of-requires
 place-of-requires c κs =
@@ -97,4 +73,4 @@ returns-2 c =
 pub item-at-spec : {M : Type 1} → statement M
 item-at-spec =
     tie.close
-    (tie.spec width-of-requires columns-requires width-of-requires-2 add-next add-width-of width-of-requires-3 columns-requires-2 width-of-requires-4 add-last width-of-requires-5 columns-requires-3 place-of-requires returns temperature-of-requires returns-2)
+    (tie.spec (λ c κs. search needs) (λ c κs. search needs) (λ c κs. search needs) add-next add-width-of (λ c κs. search needs) (λ c κs. search needs) (λ c κs. search needs) add-last (λ c κs. search needs) (λ c κs. search needs) place-of-requires returns temperature-of-requires returns-2)

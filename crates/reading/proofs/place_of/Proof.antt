@@ -4,35 +4,14 @@ use borrow.Author.Needs.{needs}
 use Rattle.reading.proofs.place_of.Statement.{statement}
 use Rattle.reading.proofs.place_of.Tie as tie
 
-is-blank-requires : tie.Need-is-blank-requires
-is-blank-requires c κs = search needs
-
 returns : tie.Need-returns
 returns c = no-digit _ _ _ _ _ (c .before .is-blank .ensures) (c .if1 .taken)
-
-is-blank-requires-2 : tie.Need-is-blank-requires-2
-is-blank-requires-2 c κs = search needs
 
 returns-2 : tie.Need-returns-2
 returns-2 c = no-latitude _ _ _ _ _ (c .before .before .before .is-blank .ensures) (c .before .before .if1 .left) _ (c .before .is-blank2 .ensures) (c .if2 .taken)
 
-is-blank-requires-3 : tie.Need-is-blank-requires-3
-is-blank-requires-3 c κs = search needs
-
 returns-3 : tie.Need-returns-3
 returns-3 c = no-longitude _ _ _ _ _ (c .before .before .before .before .before .is-blank .ensures) (c .before .before .before .before .if1 .left) _ (c .before .before .before .is-blank2 .ensures) (c .before .before .if2 .left) _ (c .before .is-blank3 .ensures) (c .if3 .taken)
-
-number-of-requires : tie.Need-number-of-requires
-number-of-requires c κs = search needs
-
-number-of-requires-2 : tie.Need-number-of-requires-2
-number-of-requires-2 c κs = search needs
-
-number-of-requires-3 : tie.Need-number-of-requires-3
-number-of-requires-3 c κs = search needs
-
-place-at-requires : tie.Need-place-at-requires
-place-at-requires c κs = search needs
 
 returns-4 : tie.Need-returns-4
 returns-4 c =
@@ -48,4 +27,4 @@ returns-4 c =
 pub place-of-spec : {M : Type 1} → statement M
 place-of-spec =
     tie.close
-    (tie.spec is-blank-requires returns is-blank-requires-2 returns-2 is-blank-requires-3 returns-3 number-of-requires number-of-requires-2 number-of-requires-3 place-at-requires returns-4)
+    (tie.spec (λ c κs. search needs) returns (λ c κs. search needs) returns-2 (λ c κs. search needs) returns-3 (λ c κs. search needs) (λ c κs. search needs) (λ c κs. search needs) (λ c κs. search needs) returns-4)

@@ -5,35 +5,14 @@ use borrow.Author.Tests.{not-false, not-true}
 use Rattle.reading.proofs.plain_of.Statement.{statement}
 use Rattle.reading.proofs.plain_of.Tie as tie
 
-is-blank-requires : tie.Need-is-blank-requires
-is-blank-requires c κs = search needs
-
 returns : tie.Need-returns
 returns c = plain-missing _ _ _ (c .before .is-blank .ensures) (c .if1 .taken)
-
-all-between-requires : tie.Need-all-between-requires
-all-between-requires c κs = search needs
-
-word-of-requires : tie.Need-word-of-requires
-word-of-requires c κs = search needs
 
 returns-2 : tie.Need-returns-2
 returns-2 c = plain-other _ _ _ (c .before .before .before .before .is-blank .ensures) (c .before .before .before .if1 .left) _ (c .before .before .all-between .ensures) (not-true _ (c .before .if2 .taken)) _ (c .word-of .ensures)
 
-is-always-text-requires : tie.Need-is-always-text-requires
-is-always-text-requires c κs = search needs
-
-word-of-requires-2 : tie.Need-word-of-requires-2
-word-of-requires-2 c κs = search needs
-
 returns-3 : tie.Need-returns-3
 returns-3 c = plain-text _ _ _ (c .before .before .before .before .before .before .is-blank .ensures) (c .before .before .before .before .before .if1 .left) _ (c .before .before .before .before .all-between .ensures) (not-false _ (c .before .before .before .if2 .left)) _ (c .before .before .is-always-text .ensures) (c .before .if3 .taken) _ (c .word-of2 .ensures)
-
-number-of-requires : tie.Need-number-of-requires
-number-of-requires c κs = search needs
-
-code-of-requires : tie.Need-code-of-requires
-code-of-requires c κs = search needs
 
 returns-4 : tie.Need-returns-4
 returns-4 c = plain-code _ _ _ (c .before .before .before .before .before .before .before .is-blank .ensures) (c .before .before .before .before .before .before .if1 .left) _ (c .before .before .before .before .before .all-between .ensures) (not-false _ (c .before .before .before .before .if2 .left)) _ (c .before .before .before .is-always-text .ensures) (c .before .before .if3 .left) _ _ (c .before .number-of .ensures) (c .code-of .ensures)
@@ -42,14 +21,14 @@ pub plain-of-spec : {M : Type 1} → statement M
 plain-of-spec =
     tie.close
     (tie.spec
-    is-blank-requires
+    (λ c κs. search needs)
     returns
-    all-between-requires
-    word-of-requires
+    (λ c κs. search needs)
+    (λ c κs. search needs)
     returns-2
-    is-always-text-requires
-    word-of-requires-2
+    (λ c κs. search needs)
+    (λ c κs. search needs)
     returns-3
-    number-of-requires
-    code-of-requires
+    (λ c κs. search needs)
+    (λ c κs. search needs)
     returns-4)

@@ -80,18 +80,9 @@ own-lead c = ap (itemOf _ _) (sym (c .before .lead-of .ensures) ∙ c .if2 .left
 passed : (c : tie.Then2 Inv-loop μ-loop) → (1 ≤ c .before .lead-of .result) × (c .before .lead-of .result ≤ turn (c .before .before) .before .loop .e)
 passed c = let lead = lead-is _ (turn (c .before .before) .before .loop .inv .0) in (rw (c .before .lead-of .ensures) (lead .low), rw (c .before .lead-of .ensures) (lead .high))
 
-enum-known-answer : tie.Need-enum-known-answer Inv-loop μ-loop
-enum-known-answer c = search needs
-
-last-requires : tie.Need-last-requires Inv-loop μ-loop
-last-requires c κs = search needs
-
 loop-holds : tie.Need-loop-holds Inv-loop μ-loop
 unfolding startOf columns entriesFrom
 loop-holds c = (search needs, (omega (arith, c .last .ensures, last-below (c .before .before .answer .given .0 .0)), (refl, refl)))
-
-sub-k : tie.Need-sub-k Inv-loop μ-loop
-sub-k c = search needs
 
 add-next : tie.Need-add-next Inv-loop μ-loop
 add-next c = omega arith
@@ -102,9 +93,6 @@ is-single-requires c κs = omega arith
 shared-slice-read-column-of : tie.Need-shared-slice-read-column-of Inv-loop μ-loop
 shared-slice-read-column-of c = omega (arith, ends (of-single (c .before)) 1 (one-wide (c .before)))
 
-column-of-requires : tie.Need-column-of-requires Inv-loop μ-loop
-column-of-requires c κs = search needs
-
 mul-t23 : tie.Need-mul-t23 Inv-loop μ-loop
 mul-t23 c = omega arith
 
@@ -114,9 +102,6 @@ element-set-from-all c = omega arith
 add-at : tie.Need-add-at Inv-loop μ-loop
 add-at c = omega (arith, ends (of-single (c .before .before)) 1 (one-wide (c .before .before)))
 
-loop-less : tie.Need-loop-less Inv-loop μ-loop
-loop-less c = search needs
-
 loop-again : tie.Need-loop-again Inv-loop μ-loop
 loop-again c =
     let one = c .before .before in
@@ -125,14 +110,8 @@ loop-again c =
     let within-101 : loop .loop .e ≤ 101 = omega (arith, of-single one .loop-test .taken, loop .loop .inv .1 .0) in
     turned (of-single one) 1 (one-wide one) _ (ap entry (c .column-of .ensures ∙ ap (λ (n : ℕ). plain 1 (getD (call loop .args .line .now) n 0 ∷ [])) stands ∙ single-reads _ within-101 (is-one one) _ _ (omega (arith, stands, ends (of-single one) 1 (one-wide one)))))
 
-width-of-requires : tie.Need-width-of-requires Inv-loop μ-loop
-width-of-requires c κs = search needs
-
 add-end : tie.Need-add-end Inv-loop μ-loop
 add-end c = omega (arith, ends (turn c) _ (c .width-of .ensures))
-
-lead-of-requires : tie.Need-lead-of-requires Inv-loop μ-loop
-lead-of-requires c κs = search needs
 
 sub-entry : tie.Need-sub-entry Inv-loop μ-loop
 sub-entry c = passed c .0
@@ -149,9 +128,6 @@ mul-entry-2 c = omega arith
 element-set-from-entry : tie.Need-element-set-from-entry Inv-loop μ-loop
 element-set-from-entry c = omega arith
 
-is-leading-requires : tie.Need-is-leading-requires Inv-loop μ-loop
-is-leading-requires c κs = search needs
-
 item-at-requires : tie.Need-item-at-requires Inv-loop μ-loop
 item-at-requires c κs = (sym (c .before .is-leading .ensures) ∙ c .if3 .taken, turn (c .before .before .before .before) .before .loop .inv .1 .1 .0)
 
@@ -160,12 +136,6 @@ mul-t38 c = omega arith
 
 element-set-from-all-2 : tie.Need-element-set-from-all-2 Inv-loop μ-loop
 element-set-from-all-2 c = omega arith
-
-sub-alone-of : tie.Need-sub-alone-of Inv-loop μ-loop
-sub-alone-of c = search needs
-
-part-alone-of-start : tie.Need-part-alone-of-start Inv-loop μ-loop
-part-alone-of-start c = search needs
 
 part-alone-of-end : tie.Need-part-alone-of-end Inv-loop μ-loop
 part-alone-of-end c = ends (turn (c .before .before .before .before)) _ (c .before .before .before .before .width-of .ensures)
@@ -179,9 +149,6 @@ mul-t47 c = omega arith
 element-set-from-all-3 : tie.Need-element-set-from-all-3 Inv-loop μ-loop
 element-set-from-all-3 c = omega arith
 
-loop-less-2 : tie.Need-loop-less-2 Inv-loop μ-loop
-loop-less-2 c = search needs
-
 loop-again-2 : tie.Need-loop-again-2 Inv-loop μ-loop
 loop-again-2 c =
     let test = c .before in
@@ -189,16 +156,10 @@ loop-again-2 c =
     let lead = passed test in
     turned (turn width) _ (width .width-of .ensures) _ (holds-below _ _ _ _ (turn width .before .loop .inv .1 .1 .1) _ (test .before .lead-of .result) _ (omega (arith, lead .0)) (lower _ _ (test .if2 .taken) (lead .1)) (omega (arith, lead .1)) ∙ ap entry (shared _ _ (turn width .before .loop .e) _ (test .before .lead-of .ensures)))
 
-loop-less-3 : tie.Need-loop-less-3 Inv-loop μ-loop
-loop-less-3 c = search needs
-
 loop-again-3 : tie.Need-loop-again-3 Inv-loop μ-loop
 loop-again-3 c =
     let width = c .before .before .before .before .before in
     turned (turn width) _ (width .width-of .ensures) _ (ap entry (c .item-at .ensures ∙ sym (own-lead (c .before .before .before))))
-
-loop-less-4 : tie.Need-loop-less-4 Inv-loop μ-loop
-loop-less-4 c = search needs
 
 loop-again-4 : tie.Need-loop-again-4 Inv-loop μ-loop
 loop-again-4 c =
@@ -207,9 +168,6 @@ loop-again-4 c =
     let e = turn width .before .loop .e in
     let alone = item-alone _ _ _ (sym (test .before .is-leading .ensures) ∙ test .if3 .left) in
     turned (turn width) _ (width .width-of .ensures) _ (ap entry (from-one (λ t. cond (eqb e 91) (departure t) (plain e t)) (c .alone-of .ensures) (own-part width) ∙ sym alone ∙ sym (own-lead (test .before .before))))
-
-enum-told : tie.Need-enum-told Inv-loop μ-loop
-enum-told c = search needs
 
 returns : tie.Need-returns Inv-loop μ-loop
 unfolding readAfter
@@ -225,4 +183,4 @@ returns-2 c = as-known _ _ (c .enum-told .given .1) refl
 pub read-after-spec : {M : Type 1} → statement M
 read-after-spec =
     tie.close
-    (tie.spec Inv-loop μ-loop enum-known-answer last-requires loop-holds sub-k add-next is-single-requires shared-slice-read-column-of column-of-requires mul-t23 element-set-from-all add-at loop-less loop-again width-of-requires add-end lead-of-requires sub-entry mul-entry element-copy-out-entry mul-entry-2 element-set-from-entry is-leading-requires item-at-requires mul-t38 element-set-from-all-2 sub-alone-of part-alone-of-start part-alone-of-end alone-of-requires mul-t47 element-set-from-all-3 loop-less-2 loop-again-2 loop-less-3 loop-again-3 loop-less-4 loop-again-4 enum-told returns returns-2)
+    (tie.spec Inv-loop μ-loop (λ c. search needs) (λ c κs. search needs) loop-holds (λ c. search needs) add-next is-single-requires shared-slice-read-column-of (λ c κs. search needs) mul-t23 element-set-from-all add-at (λ c. search needs) loop-again (λ c κs. search needs) add-end (λ c κs. search needs) sub-entry mul-entry element-copy-out-entry mul-entry-2 element-set-from-entry (λ c κs. search needs) item-at-requires mul-t38 element-set-from-all-2 (λ c. search needs) (λ c. search needs) part-alone-of-end alone-of-requires mul-t47 element-set-from-all-3 (λ c. search needs) loop-again-2 (λ c. search needs) loop-again-3 (λ c. search needs) loop-again-4 (λ c. search needs) returns returns-2)

@@ -15,15 +15,6 @@ abbrev μ-loop : tie.MeasureT-loop
 loop-holds : tie.Need-loop-holds Inv-loop μ-loop
 loop-holds c = lines-none _ _ _ _
 
-mul-entry : tie.Need-mul-entry Inv-loop μ-loop
-mul-entry c = search needs
-
-array-copy-out-entry : tie.Need-array-copy-out-entry Inv-loop μ-loop
-array-copy-out-entry c = search needs
-
-add-k : tie.Need-add-k Inv-loop μ-loop
-add-k c = search needs
-
 put-reading-requires : tie.Need-put-reading-requires Inv-loop μ-loop
 put-reading-requires c κs = omega (arith, c .before .before .before .loop .inv .short, c .before .before .before .loop .inv .long, c .before .before .loop-test .taken)
 
@@ -46,9 +37,9 @@ put-readings-spec =
     Inv-loop
     μ-loop
     loop-holds
-    mul-entry
-    array-copy-out-entry
-    add-k
+    (λ c. search needs)
+    (λ c. search needs)
+    (λ c. search needs)
     put-reading-requires
     loop-less
     loop-again

@@ -11,24 +11,6 @@ use Rattle.reading_lines.proofs.put_record.Tie as tie
 call-sign-after-requires : tie.Need-call-sign-after-requires
 call-sign-after-requires c κs = λ ed a. let same : c .before .before .args .edition ≡ ed = cc in c .before .before .pre .1 ∙ ap lengthOf same
 
-is-written-back-requires : tie.Need-is-written-back-requires
-is-written-back-requires c κs = search needs
-
-put-accepted-requires : tie.Need-put-accepted-requires
-put-accepted-requires c κs = search needs
-
-put-readings-requires : tie.Need-put-readings-requires
-put-readings-requires c κs = search needs
-
-put-call-sign-requires : tie.Need-put-call-sign-requires
-put-call-sign-requires c κs = search needs
-
-put-written-requires : tie.Need-put-written-requires
-put-written-requires c κs = search needs
-
-same-length : tie.Need-same-length
-same-length c = search needs
-
 returns : tie.Need-returns
 unfolding readText
 returns c =
@@ -44,10 +26,10 @@ put-record-spec =
     tie.close
     (tie.spec
     call-sign-after-requires
-    is-written-back-requires
-    put-accepted-requires
-    put-readings-requires
-    put-call-sign-requires
-    put-written-requires
-    same-length
+    (λ c κs. search needs)
+    (λ c κs. search needs)
+    (λ c κs. search needs)
+    (λ c κs. search needs)
+    (λ c κs. search needs)
+    (λ c. search needs)
     returns)

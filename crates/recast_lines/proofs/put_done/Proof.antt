@@ -8,30 +8,6 @@ use borrow.Author.Needs.{needs}
 use Rattle.recast_lines.proofs.put_done.Statement.{statement}
 use Rattle.recast_lines.proofs.put_done.Tie as tie
 
-count-requires : tie.Need-count-requires
-count-requires c κs = search needs
-
-put-number-requires : tie.Need-put-number-requires
-put-number-requires c κs = search needs
-
-slice-aggregate-put-numbered : tie.Need-slice-aggregate-put-numbered
-slice-aggregate-put-numbered c = search needs
-
-put-numbered-requires : tie.Need-put-numbered-requires
-put-numbered-requires c κs = search needs
-
-put-lost-requires : tie.Need-put-lost-requires
-put-lost-requires c κs = search needs
-
-slice-aggregate-put-text : tie.Need-slice-aggregate-put-text
-slice-aggregate-put-text c = search needs
-
-put-text-requires : tie.Need-put-text-requires
-put-text-requires c κs = search needs
-
-same-length : tie.Need-same-length
-same-length c = search needs
-
 returns : tie.Need-returns
 unfolding recastLine lineEnd bytesOf
 returns c =
@@ -45,12 +21,12 @@ pub put-done-spec : {M : Type 1} → statement M
 put-done-spec =
     tie.close
     (tie.spec
-    count-requires
-    put-number-requires
-    slice-aggregate-put-numbered
-    put-numbered-requires
-    put-lost-requires
-    slice-aggregate-put-text
-    put-text-requires
-    same-length
+    (λ c κs. search needs)
+    (λ c κs. search needs)
+    (λ c. search needs)
+    (λ c κs. search needs)
+    (λ c κs. search needs)
+    (λ c. search needs)
+    (λ c κs. search needs)
+    (λ c. search needs)
     returns)

@@ -16,9 +16,6 @@ put-word-requires-2 c κs =
     let end = told-end _ _ 64 0 refl (search needs) (omega arith) (first .put-word .ensures) in
     told-room _ _ 37 27 refl (omega arith) (omega arith) _ _ (omega arith)
 
-same-length : tie.Need-same-length
-same-length c = search needs
-
 returns : tie.Need-returns
 returns c =
     let second = c .before .before in
@@ -28,4 +25,4 @@ returns c =
     (renamed (sym (lost-by-words _)) (also (first .put-word .ensures) (second .put-word2 .ensures) (omega arith)), omega arith)
 
 pub put-lost-spec : {M : Type 1} → statement M
-put-lost-spec = tie.close (tie.spec put-word-requires put-word-requires-2 same-length returns)
+put-lost-spec = tie.close (tie.spec put-word-requires put-word-requires-2 (λ c. search needs) returns)

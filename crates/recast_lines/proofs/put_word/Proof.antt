@@ -25,17 +25,11 @@ cast-e c = omega (arith, trailing-le 64 (c .before .loop .left))
 add-e : tie.Need-add-e Inv-loop μ-loop
 add-e c = omega (arith, trailing-le 64 (c .before .loop .left))
 
-slice-aggregate-put-numbered : tie.Need-slice-aggregate-put-numbered Inv-loop μ-loop
-slice-aggregate-put-numbered c = search needs
-
 put-numbered-requires : tie.Need-put-numbered-requires Inv-loop μ-loop
 put-numbered-requires c κs =
     let at = c .before .before .before in
     let l = at .loop in
     omega (arith, l .inv .1 .ending, l .inv .1 .long, told-some (at .before .before .args .first) (l .left) (omega arith) (c .before .before .loop-test .taken))
-
-sub-left : tie.Need-sub-left Inv-loop μ-loop
-sub-left c = search needs
 
 loop-less : tie.Need-loop-less Inv-loop μ-loop
 loop-less c =
@@ -65,9 +59,9 @@ put-word-spec =
     loop-holds
     cast-e
     add-e
-    slice-aggregate-put-numbered
+    (λ c. search needs)
     put-numbered-requires
-    sub-left
+    (λ c. search needs)
     loop-less
     loop-again
     same-length

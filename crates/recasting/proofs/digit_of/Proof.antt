@@ -15,17 +15,11 @@ one-digit One = lit≤ tt
 one-digit Three = lit≤ tt
 one-digit Four = lit≤ tt
 
-number-requires : tie.Need-number-requires
-number-requires c κs = search needs
-
 add-result : tie.Need-add-result
 add-result c = omega (arith, c .number .ensures, one-digit (c .before .args .edition))
 
 cast-result : tie.Need-cast-result
 cast-result c = omega (arith, c .number .ensures, one-digit (c .before .args .edition))
 
-returns : tie.Need-returns
-returns c = search needs
-
 pub digit-of-spec : {M : Type 1} → statement M
-digit-of-spec = tie.close (tie.spec number-requires add-result cast-result returns)
+digit-of-spec = tie.close (tie.spec (λ c κs. search needs) add-result cast-result (λ c. search needs))

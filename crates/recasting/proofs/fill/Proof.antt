@@ -17,12 +17,6 @@ copy-requires c κs =
     let start = c .before .before .before .before in
     omega (arith, start .pre .1, front-long (start .args .from) (start .args .line .now) (start .pre .0), shortest (start .args .to))
 
-is-first-requires : tie.Need-is-first-requires
-is-first-requires c κs = search needs
-
-same-length : tie.Need-same-length
-same-length c = search needs
-
 returns : tie.Need-returns
 returns c =
     let copy = c .before .before .before .before in
@@ -38,18 +32,12 @@ sub-rest c =
 part-rest-start : tie.Need-part-rest-start
 part-rest-start c = sub-rest c
 
-part-rest-end : tie.Need-part-rest-end
-part-rest-end c = search needs
-
 fill-rest-requires : tie.Need-fill-rest-requires
 fill-rest-requires c κs =
     let branch = c .before in
     let copy = branch .before .before .before .before in
     let start = copy .before .before .before .before .before in
     (start .pre .0, rest-long (start .args .from) (start .args .line .now) (start .pre .0) (start .args .to) _ _ (start .pre .1) (copy .copy .ensures .1) (sym (branch .before .is-first .ensures) ∙ branch .if1 .left))
-
-same-length-2 : tie.Need-same-length-2
-same-length-2 c = search needs
 
 returns-2 : tie.Need-returns-2
 returns-2 c =
@@ -65,12 +53,12 @@ fill-spec =
     (tie.spec
     slice-aggregate-copy
     copy-requires
-    is-first-requires
-    same-length
+    (λ c κs. search needs)
+    (λ c. search needs)
     returns
     sub-rest
     part-rest-start
-    part-rest-end
+    (λ c. search needs)
     fill-rest-requires
-    same-length-2
+    (λ c. search needs)
     returns-2)

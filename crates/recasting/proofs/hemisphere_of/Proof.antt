@@ -20,9 +20,6 @@ there s = omega (arith, s .pre, begins One 6 (lit≤ tt) (lit≤ tt))
 full-text-requires : tie.Need-full-text-requires
 full-text-requires c κs = omega (arith, ends One 6 (lit≤ tt))
 
-is-crossing-requires : tie.Need-is-crossing-requires
-is-crossing-requires c κs = search needs
-
 first-byte-requires : tie.Need-first-byte-requires
 first-byte-requires c κs = omega (arith, begins One 6 (lit≤ tt) (lit≤ tt))
 
@@ -30,9 +27,6 @@ returns : tie.Need-returns
 returns c =
     let tests = c .before .before in
     c .first-byte .ensures ∙ not-crossing _ _ _ (there (tests .before .before .before)) _ (tests .is-crossing .ensures) (not-true _ (c .before .if1 .taken))
-
-is-blank-requires : tie.Need-is-blank-requires
-is-blank-requires c κs = search needs
 
 first-byte-requires-2 : tie.Need-first-byte-requires-2
 first-byte-requires-2 c κs = omega (arith, begins One 6 (lit≤ tt) (lit≤ tt))
@@ -49,18 +43,6 @@ full-text-requires-2 c κs = omega (arith, ends One 7 (lit≤ tt))
 full-text-requires-3 : tie.Need-full-text-requires-3
 full-text-requires-3 c κs = omega (arith, ends One 8 (lit≤ tt))
 
-number-of-requires : tie.Need-number-of-requires
-number-of-requires c κs = search needs
-
-number-of-requires-2 : tie.Need-number-of-requires-2
-number-of-requires-2 c κs = search needs
-
-number-of-requires-3 : tie.Need-number-of-requires-3
-number-of-requires-3 c κs = search needs
-
-lowest-digit-requires : tie.Need-lowest-digit-requires
-lowest-digit-requires c κs = search needs
-
 returns-3 : tie.Need-returns-3
 returns-3 c =
     let first = c .before .before .before in
@@ -75,5 +57,5 @@ returns-3 c =
 pub hemisphere-of-spec : {M : Type 1} → statement M
 hemisphere-of-spec =
     tie.close
-    (tie.spec full-text-requires is-crossing-requires first-byte-requires returns is-blank-requires first-byte-requires-2 returns-2 full-text-requires-2 full-text-requires-3 number-of-requires
-    number-of-requires-2 number-of-requires-3 lowest-digit-requires returns-3)
+    (tie.spec full-text-requires (λ c κs. search needs) first-byte-requires returns (λ c κs. search needs) first-byte-requires-2 returns-2 full-text-requires-2 full-text-requires-3 (λ c κs. search needs)
+    (λ c κs. search needs) (λ c κs. search needs) (λ c κs. search needs) returns-3)

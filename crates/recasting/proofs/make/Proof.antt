@@ -48,18 +48,12 @@ put-requires c κs =
     let to = begun (filled blank) .args .to in
     omega (arith, long blank, begins to 6 (lit≤ tt) (omega (arith, last-above to)))
 
-digit-of-requires : tie.Need-digit-of-requires
-digit-of-requires c κs = search needs
-
 put-requires-2 : tie.Need-put-requires-2
 put-requires-2 c κs =
     let twelve = c .before .before .before .before in
     let blank = twelve .before .before .before .before .before in
     let to = begun (filled blank) .args .to in
     omega (arith, twelve .put .kept .0, long blank, begins to 65 (lit≤ tt) (omega (arith, last-above to)))
-
-same-length : tie.Need-same-length
-same-length c = search needs
 
 returns : tie.Need-returns
 returns c =
@@ -74,4 +68,4 @@ returns c =
     (hemisphere .hemisphere-of .ensures) (digit .digit-of .ensures)
 
 pub make-spec : {M : Type 1} → statement M
-make-spec = tie.close (tie.spec fill-requires blank-lost-requires hemisphere-of-requires put-requires digit-of-requires put-requires-2 same-length returns)
+make-spec = tie.close (tie.spec fill-requires blank-lost-requires hemisphere-of-requires put-requires (λ c κs. search needs) put-requires-2 (λ c. search needs) returns)

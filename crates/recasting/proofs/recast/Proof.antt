@@ -8,20 +8,8 @@ use mathlib.Core.Path.{_∙_, ap, sym}
 use Rattle.recasting.proofs.recast.Statement.{statement}
 use Rattle.recasting.proofs.recast.Tie as tie
 
-check-requires : tie.Need-check-requires
-check-requires c κs = search needs
-
-enum-known-from : tie.Need-enum-known-from
-enum-known-from c = search needs
-
 recast-to-requires : tie.Need-recast-to-requires
 recast-to-requires c κs = sym (c .before .before .before .before .check .ensures) ∙ c .before .before .from .given .1
-
-enum-known-refusal : tie.Need-enum-known-refusal
-enum-known-refusal c = search needs
-
-same-length : tie.Need-same-length
-same-length c = search needs
 
 returns : tie.Need-returns
 unfolding recastAfter leftAfter
@@ -41,10 +29,10 @@ pub recast-spec : {M : Type 1} → statement M
 recast-spec =
     tie.close
     (tie.spec
-    check-requires
-    enum-known-from
+    (λ c κs. search needs)
+    (λ c. search needs)
     recast-to-requires
-    enum-known-refusal
-    same-length
+    (λ c. search needs)
+    (λ c. search needs)
     returns
     returns-2)

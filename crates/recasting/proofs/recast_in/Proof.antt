@@ -6,14 +6,8 @@ use Rattle.recasting.proofs.RecastLaws.{own-texts, left-alone, done}
 use Rattle.recasting.proofs.recast_in.Statement.{statement}
 use Rattle.recasting.proofs.recast_in.Tie as tie
 
-length-requires : tie.Need-length-requires
-length-requires c κs = search needs
-
 returns : tie.Need-returns
 returns c = left-alone _ _ _ _ _ (c .before .length .ensures) (c .if1 .taken)
-
-slice-relend-prefix-row : tie.Need-slice-relend-prefix-row
-slice-relend-prefix-row c = search needs
 
 slice-aggregate-row : tie.Need-slice-aggregate-row
 slice-aggregate-row c = front-length (c .before .before .length .result) _ (c .before .if1 .left)
@@ -29,9 +23,6 @@ losses-of-requires c κs =
     let start = c .before .before .before .before .before .before .before .before in
     own-texts _ _ (start .pre)
 
-same-length : tie.Need-same-length
-same-length c = search needs
-
 returns-2 : tie.Need-returns-2
 returns-2 c =
     let make = c .before .before .before in
@@ -42,11 +33,11 @@ pub recast-in-spec : {M : Type 1} → statement M
 recast-in-spec =
     tie.close
     (tie.spec
-    length-requires
+    (λ c κs. search needs)
     returns
-    slice-relend-prefix-row
+    (λ c. search needs)
     slice-aggregate-row
     make-requires
     losses-of-requires
-    same-length
+    (λ c. search needs)
     returns-2)

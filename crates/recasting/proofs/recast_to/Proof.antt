@@ -9,21 +9,6 @@ use mathlib.Core.Path.{_∙_, ap}
 use Rattle.recasting.proofs.recast_to.Statement.{statement}
 use Rattle.recasting.proofs.recast_to.Tie as tie
 
-of-number-requires : tie.Need-of-number-requires
-of-number-requires c κs = search needs
-
-enum-known-to : tie.Need-enum-known-to
-enum-known-to c = search needs
-
-recast-in-requires : tie.Need-recast-in-requires
-recast-in-requires c κs = search needs
-
-enum-told : tie.Need-enum-told
-enum-told c = search needs
-
-same-length : tie.Need-same-length
-same-length c = search needs
-
 returns : tie.Need-returns
 unfolding recastTo leftTo
 returns c = (
@@ -43,10 +28,10 @@ pub recast-to-spec : {M : Type 1} → statement M
 recast-to-spec =
     tie.close
     (tie.spec
-    of-number-requires
-    enum-known-to
-    recast-in-requires
-    enum-told
-    same-length
+    (λ c κs. search needs)
+    (λ c. search needs)
+    (λ c κs. search needs)
+    (λ c. search needs)
+    (λ c. search needs)
     returns
     returns-2)

@@ -8,27 +8,6 @@ use borrow.Author.Needs.{needs}
 use Rattle.report_lines.proofs.put_accepted.Statement.{statement}
 use Rattle.report_lines.proofs.put_accepted.Tie as tie
 
-number-requires : tie.Need-number-requires
-number-requires c κs = search needs
-
-put-number-requires : tie.Need-put-number-requires
-put-number-requires c κs = search needs
-
-slice-aggregate-put-numbered : tie.Need-slice-aggregate-put-numbered
-slice-aggregate-put-numbered c = search needs
-
-put-numbered-requires : tie.Need-put-numbered-requires
-put-numbered-requires c κs = search needs
-
-slice-aggregate-put-text : tie.Need-slice-aggregate-put-text
-slice-aggregate-put-text c = search needs
-
-put-text-requires : tie.Need-put-text-requires
-put-text-requires c κs = search needs
-
-same-length : tie.Need-same-length
-same-length c = search needs
-
 returns : tie.Need-returns
 unfolding acceptedLine lineEnd bytesOf
 returns c =
@@ -41,11 +20,11 @@ pub put-accepted-spec : {M : Type 1} → statement M
 put-accepted-spec =
     tie.close
     (tie.spec
-    number-requires
-    put-number-requires
-    slice-aggregate-put-numbered
-    put-numbered-requires
-    slice-aggregate-put-text
-    put-text-requires
-    same-length
+    (λ c κs. search needs)
+    (λ c κs. search needs)
+    (λ c. search needs)
+    (λ c κs. search needs)
+    (λ c. search needs)
+    (λ c κs. search needs)
+    (λ c. search needs)
     returns)

@@ -11,27 +11,6 @@ use Rattle.report_lines.proofs.put_call_sign.Tie as tie
 returns : tie.Need-returns
 returns c = (sign-none _ _ (c .if1 .taken), omega arith)
 
-put-number-requires : tie.Need-put-number-requires
-put-number-requires c κs = search needs
-
-slice-aggregate-put-text : tie.Need-slice-aggregate-put-text
-slice-aggregate-put-text c = search needs
-
-put-text-requires : tie.Need-put-text-requires
-put-text-requires c κs = search needs
-
-put-text-requires-2 : tie.Need-put-text-requires-2
-put-text-requires-2 c κs = search needs
-
-slice-aggregate-put-text-2 : tie.Need-slice-aggregate-put-text-2
-slice-aggregate-put-text-2 c = search needs
-
-put-text-requires-3 : tie.Need-put-text-requires-3
-put-text-requires-3 c κs = search needs
-
-same-length : tie.Need-same-length
-same-length c = search needs
-
 returns-2 : tie.Need-returns-2
 unfolding lineEnd bytesOf
 returns-2 c =
@@ -46,11 +25,11 @@ put-call-sign-spec =
     tie.close
     (tie.spec
     returns
-    put-number-requires
-    slice-aggregate-put-text
-    put-text-requires
-    put-text-requires-2
-    slice-aggregate-put-text-2
-    put-text-requires-3
-    same-length
+    (λ c κs. search needs)
+    (λ c. search needs)
+    (λ c κs. search needs)
+    (λ c κs. search needs)
+    (λ c. search needs)
+    (λ c κs. search needs)
+    (λ c. search needs)
     returns-2)

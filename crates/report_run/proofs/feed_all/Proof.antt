@@ -20,20 +20,11 @@ abbrev μ-loop : tie.MeasureT-loop
 rest : (xs : List ℕ) (at : ℕ) → length (take (length xs - at) (drop at xs)) ≡ length xs - at
 rest xs at = length-take-le (length xs - at) (drop at xs) (omega (arith, length-drop at xs))
 
-loop-holds : tie.Need-loop-holds Inv-loop μ-loop
-loop-holds c = search needs
-
-sub-feed : tie.Need-sub-feed Inv-loop μ-loop
-sub-feed c = search needs
-
 part-feed-start : tie.Need-part-feed-start Inv-loop μ-loop
 part-feed-start c = c .before .loop .inv .0
 
 part-feed-end : tie.Need-part-feed-end Inv-loop μ-loop
 part-feed-end c = le-refl _
-
-feed-requires : tie.Need-feed-requires Inv-loop μ-loop
-feed-requires c κs = search needs
 
 add-at : tie.Need-add-at Inv-loop μ-loop
 add-at c = omega (arith, c .before .before .before .feed .ensures .within, rest (c .before .before .before .before .before .before .before .before .before .before .args .piece .now) (c .before .before .before .before .before .before .before .loop .at))
@@ -44,14 +35,8 @@ slice-reshare-prefix-write-all c = omega (arith, c .before .before .before .feed
 slice-aggregate-write-all : tie.Need-slice-aggregate-write-all Inv-loop μ-loop
 slice-aggregate-write-all c = sym (length-take-le _ _ (omega (arith, c .before .before .before .before .feed .ensures .room, c .before .before .before .before .feed .kept .1 .1 .0)))
 
-write-all-requires : tie.Need-write-all-requires Inv-loop μ-loop
-write-all-requires c κs = search needs
-
 same-length : tie.Need-same-length Inv-loop μ-loop
 same-length c = c .before .before .before .before .before .before .feed .kept .1 .1 .0 ∙ c .before .before .before .before .before .before .before .before .before .before .loop .inv .1
-
-returns : tie.Need-returns Inv-loop μ-loop
-returns c = search needs
 
 loop-less : tie.Need-loop-less Inv-loop μ-loop
 loop-less c = omega (arith, c .before .before .before .before .before .before .feed .ensures .within, rest (c .before .before .before .before .before .before .before .before .before .before .before .before .before .args .piece .now) (c .before .before .before .before .before .before .before .before .before .before .loop .at), c .before .before .before .before .before .before .feed .ensures .moves (omega (arith, c .before .before .before .before .before .before .before .before .before .before .before .before .before .pre, c .before .before .before .before .before .before .before .before .before .before .loop .inv .1)) (omega (arith, rest (c .before .before .before .before .before .before .before .before .before .before .before .before .before .args .piece .now) (c .before .before .before .before .before .before .before .before .before .before .loop .at), c .before .before .before .before .before .before .before .before .before .loop-test .taken)))
@@ -62,27 +47,24 @@ loop-again c = (omega (arith, c .before .before .before .before .before .before 
 same-length-2 : tie.Need-same-length-2 Inv-loop μ-loop
 same-length-2 c = c .before .loop .inv .1
 
-returns-2 : tie.Need-returns-2 Inv-loop μ-loop
-returns-2 c = search needs
-
 pub feed-all-spec : {M : Type 1} → statement M
 feed-all-spec =
     tie.close
     (tie.spec
     Inv-loop
     μ-loop
-    loop-holds
-    sub-feed
+    (λ c. search needs)
+    (λ c. search needs)
     part-feed-start
     part-feed-end
-    feed-requires
+    (λ c κs. search needs)
     add-at
     slice-reshare-prefix-write-all
     slice-aggregate-write-all
-    write-all-requires
+    (λ c κs. search needs)
     same-length
-    returns
+    (λ c. search needs)
     loop-less
     loop-again
     same-length-2
-    returns-2)
+    (λ c. search needs))

@@ -8,14 +8,8 @@ use Rattle.reporting.proofs.asked_by.Tie as tie
 returns : tie.Need-returns
 returns c = asks-none _ (c .if1 .taken)
 
-shared-slice-read-of-digit : tie.Need-shared-slice-read-of-digit
-shared-slice-read-of-digit c = search needs
-
-of-digit-requires : tie.Need-of-digit-requires
-of-digit-requires c κs = search needs
-
 returns-2 : tie.Need-returns-2
 returns-2 c = c .of-digit .ensures ∙ asks (c .before .before .before .before .args .line .now) (c .before .before .if1 .left)
 
 pub asked-by-spec : {M : Type 1} → statement M
-asked-by-spec = tie.close (tie.spec returns shared-slice-read-of-digit of-digit-requires returns-2)
+asked-by-spec = tie.close (tie.spec returns (λ c. search needs) (λ c κs. search needs) returns-2)

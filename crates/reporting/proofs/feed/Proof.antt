@@ -15,9 +15,6 @@ Inv-loop piece out₀ held₀ ledger₀ count₀ at₀ written₀ out held ledge
 abbrev μ-loop : tie.MeasureT-loop
 μ-loop piece out₀ held₀ ledger₀ count₀ at₀ written₀ out held ledger count at written = length piece - at
 
-least-requires : tie.Need-least-requires Inv-loop μ-loop
-least-requires c κs = search needs
-
 loop-holds : tie.Need-loop-holds Inv-loop μ-loop
 loop-holds c = so-far-none _ _ _ _ _ (omega (arith, c .least .ensures)) (search needs)
 
@@ -93,7 +90,7 @@ feed-spec =
     (tie.spec
     Inv-loop
     μ-loop
-    least-requires
+    (λ c κs. search needs)
     loop-holds
     sub-if1
     line-end-requires

@@ -11,18 +11,6 @@ use Rattle.reporting.proofs.finish.Tie as tie
 returns : tie.Need-returns
 returns c = finish-short _ _ _ (c .if1 .taken)
 
-least-requires : tie.Need-least-requires
-least-requires c κs = search needs
-
-has-refused-requires : tie.Need-has-refused-requires
-has-refused-requires c κs = search needs
-
-put-last-requires : tie.Need-put-last-requires
-put-last-requires c κs = search needs
-
-same-length : tie.Need-same-length
-same-length c = search needs
-
 returns-2 : tie.Need-returns-2
 returns-2 c = finish-none (c .before .before .before .before .before .before .before .before .before .before .before .args .run) (search needs) _ (c .before .before .before .before .before .before .least .ensures) (c .before .before .before .before .before .before .before .before .before .if1 .left) (c .before .before .before .before .before .if2 .taken) (c .before .before .put-last .ensures .0) (c .before .before .before .before .has-refused .ensures) (omega arith)
 
@@ -32,18 +20,6 @@ array-share-prefix-held c = let long : length (c .before .before .before .before
 slice-aggregate-take-line : tie.Need-slice-aggregate-take-line
 slice-aggregate-take-line c = let long : length (c .before .before .before .before .before .before .before .args .run .held) ≡ 160 = search needs in sym (length-take-le _ _ (omega (arith, c .before .before .least .ensures)))
 
-take-line-requires : tie.Need-take-line-requires
-take-line-requires c κs = search needs
-
-has-refused-requires-2 : tie.Need-has-refused-requires-2
-has-refused-requires-2 c κs = search needs
-
-put-last-requires-2 : tie.Need-put-last-requires-2
-put-last-requires-2 c κs = search needs
-
-same-length-2 : tie.Need-same-length-2
-same-length-2 c = search needs
-
 returns-3 : tie.Need-returns-3
 returns-3 c = finish-line (c .before .before .before .before .before .before .before .before .before .before .before .before .before .before .before .before .before .args .run) (search needs) _ (c .before .before .before .before .before .before .before .before .before .before .before .before .least .ensures) (c .before .before .before .before .before .before .before .before .before .before .before .before .before .before .before .if1 .left) (c .before .before .before .before .before .before .before .before .before .before .before .if2 .left) (c .before .before .before .before .before .before .before .before .take-line .ensures) (c .before .before .put-last2 .ensures .0) (c .before .before .before .before .has-refused2 .ensures) (omega (arith, c .before .before .before .before .before .before .before .before .take-line .ensures .short))
 
@@ -52,15 +28,15 @@ finish-spec =
     tie.close
     (tie.spec
     returns
-    least-requires
-    has-refused-requires
-    put-last-requires
-    same-length
+    (λ c κs. search needs)
+    (λ c κs. search needs)
+    (λ c κs. search needs)
+    (λ c. search needs)
     returns-2
     array-share-prefix-held
     slice-aggregate-take-line
-    take-line-requires
-    has-refused-requires-2
-    put-last-requires-2
-    same-length-2
+    (λ c κs. search needs)
+    (λ c κs. search needs)
+    (λ c κs. search needs)
+    (λ c. search needs)
     returns-3)

@@ -6,15 +6,6 @@ use borrow.Author.Needs.{needs}
 use Rattle.reporting.proofs.has_refused.Statement.{statement}
 use Rattle.reporting.proofs.has_refused.Tie as tie
 
-enum-told : tie.Need-enum-told
-enum-told c = search needs
-
-enum-told-2 : tie.Need-enum-told-2
-enum-told-2 c = search needs
-
-enum-told-3 : tie.Need-enum-told-3
-enum-told-3 c = search needs
-
 returns : tie.Need-returns
 returns c = stage-refused _ Asking (c .enum-told .given .1) refl
 
@@ -26,4 +17,4 @@ returns-3 c = stage-refused _ (Telling _) (c .before .enum-told3 .given .1) refl
 
 pub has-refused-spec : {M : Type 1} → statement M
 has-refused-spec =
-    tie.close (tie.spec enum-told enum-told-2 enum-told-3 returns returns-2 returns-3)
+    tie.close (tie.spec (λ c. search needs) (λ c. search needs) (λ c. search needs) returns returns-2 returns-3)

@@ -16,12 +16,6 @@ Inv-loop held₀ count bytes n i₀ held i = (i ≤ n) × ((length held ≡ leng
 abbrev μ-loop : tie.MeasureT-loop
 μ-loop held₀ count bytes n i₀ held i = n - i
 
-sub-least : tie.Need-sub-least Inv-loop μ-loop
-sub-least c = search needs
-
-least-requires : tie.Need-least-requires Inv-loop μ-loop
-least-requires c κs = search needs
-
 loop-holds : tie.Need-loop-holds Inv-loop μ-loop
 loop-holds c = (omega arith, (refl, rw (add-zero, append-nil)))
 
@@ -33,12 +27,6 @@ add-held c = omega (arith, c .before .before .before .least .ensures)
 
 slice-write-held : tie.Need-slice-write-held Inv-loop μ-loop
 slice-write-held c = omega (arith, c .before .before .before .least .ensures)
-
-add-i : tie.Need-add-i Inv-loop μ-loop
-add-i c = search needs
-
-loop-less : tie.Need-loop-less Inv-loop μ-loop
-loop-less c = search needs
 
 loop-again : tie.Need-loop-again Inv-loop μ-loop
 loop-again c =
@@ -67,14 +55,14 @@ keep-spec =
     (tie.spec
     Inv-loop
     μ-loop
-    sub-least
-    least-requires
+    (λ c. search needs)
+    (λ c κs. search needs)
     loop-holds
     shared-slice-read-held
     add-held
     slice-write-held
-    add-i
-    loop-less
+    (λ c. search needs)
+    (λ c. search needs)
     loop-again
     add-result
     same-length

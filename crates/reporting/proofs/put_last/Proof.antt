@@ -7,32 +7,11 @@ use borrow.Author.Needs.{needs}
 use Rattle.reporting.proofs.put_last.Statement.{statement}
 use Rattle.reporting.proofs.put_last.Tie as tie
 
-enum-told : tie.Need-enum-told
-enum-told c = search needs
-
-put-not-held-requires : tie.Need-put-not-held-requires
-put-not-held-requires c κs = search needs
-
-enum-told-2 : tie.Need-enum-told-2
-enum-told-2 c = search needs
-
-enum-told-3 : tie.Need-enum-told-3
-enum-told-3 c = search needs
-
-put-totals-requires : tie.Need-put-totals-requires
-put-totals-requires c κs = search needs
-
-same-length : tie.Need-same-length
-same-length c = search needs
-
 returns : tie.Need-returns
 returns c = (stage-last _ Asking (c .before .before .before .before .enum-told .given .1) (c .before .before .put-not-held .ensures .0), c .before .before .put-not-held .ensures .1)
 
 returns-2 : tie.Need-returns-2
 returns-2 c = (stage-last _ Closed (c .enum-told2 .given .1) (nothing _ _), omega arith)
-
-same-length-2 : tie.Need-same-length-2
-same-length-2 c = search needs
 
 returns-3 : tie.Need-returns-3
 returns-3 c = (stage-last _ (Telling _) (c .before .before .before .before .enum-told3 .given .1) (c .before .before .put-totals .ensures .0), c .before .before .put-totals .ensures .1)
@@ -41,13 +20,13 @@ pub put-last-spec : {M : Type 1} → statement M
 put-last-spec =
     tie.close
     (tie.spec
-    enum-told
-    put-not-held-requires
-    enum-told-2
-    enum-told-3
-    put-totals-requires
-    same-length
+    (λ c. search needs)
+    (λ c κs. search needs)
+    (λ c. search needs)
+    (λ c. search needs)
+    (λ c κs. search needs)
+    (λ c. search needs)
     returns
     returns-2
-    same-length-2
+    (λ c. search needs)
     returns-3)

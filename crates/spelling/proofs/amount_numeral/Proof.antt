@@ -15,44 +15,14 @@ use Rattle.spelling.proofs.amount_numeral.Tie as tie
 departure-of : {x y : Bool} {n m : ℕ} → x ≡ y → n ≡ m → cond x (n + 100) n ≡ cond y (m + 100) m
 departure-of {x} {y} {n} {m} e f = ap (λ (b : Bool). cond b (n + 100) n) e ∙ ap (λ (k : ℕ). cond y (k + 100) k) f
 
-is-negative-requires : tie.Need-is-negative-requires
-is-negative-requires c κs = search needs
-
-magnitude-requires : tie.Need-magnitude-requires
-magnitude-requires c κs = search needs
-
-is-sign-requires : tie.Need-is-sign-requires
-is-sign-requires c κs = search needs
-
-sign-digit-requires : tie.Need-sign-digit-requires
-sign-digit-requires c κs = search needs
-
-digits-requires : tie.Need-digits-requires
-digits-requires c κs = search needs
-
 returns : tie.Need-returns
 returns c = c .digits .ensures ∙ ap inDigits ((c .before .sign-digit .ensures) ∙ ap (λ (b : Bool). signDigit b (c .before .before .before .before .before .before .args .kind)) ((c .before .before .before .before .before .is-negative .ensures) ∙ ap negative (itself _ (c .before .before .before .before .before .before .fits .a)))) ∙ sym (amount-sign _ _ _ (sym (c .before .before .before .is-sign .ensures) ∙ (c .before .before .if1 .taken)))
-
-is-value-requires : tie.Need-is-value-requires
-is-value-requires c κs = search needs
-
-digits-requires-2 : tie.Need-digits-requires-2
-digits-requires-2 c κs = search needs
 
 returns-2 : tie.Need-returns-2
 returns-2 c = c .digits2 .ensures ∙ ap inDigits ((c .before .before .before .before .before .magnitude .ensures .0) ∙ ap natAbs (itself _ (c .before .before .before .before .before .before .before .fits .a))) ∙ sym (amount-value _ _ _ (sym (c .before .before .before .before .is-sign .ensures) ∙ (c .before .before .before .if1 .left)) (sym (c .before .before .is-value .ensures) ∙ (c .before .if2 .taken)))
 
-departure-number-requires : tie.Need-departure-number-requires
-departure-number-requires c κs = search needs
-
-digits-requires-3 : tie.Need-digits-requires-3
-digits-requires-3 c κs = search needs
-
 returns-3 : tie.Need-returns-3
 returns-3 c = c .digits3 .ensures ∙ ap inDigits ((c .before .departure-number .ensures) ∙ departure-of ((c .before .before .before .before .before .before .before .before .is-negative .ensures) ∙ ap negative (itself _ (c .before .before .before .before .before .before .before .before .before .fits .a))) ((c .before .before .before .before .before .before .before .magnitude .ensures .0) ∙ ap natAbs (itself _ (c .before .before .before .before .before .before .before .before .before .fits .a)))) ∙ sym (amount-departure _ _ _ (sym (c .before .before .before .before .before .before .is-sign .ensures) ∙ (c .before .before .before .before .before .if1 .left)) (sym (c .before .before .before .before .is-value .ensures) ∙ (c .before .before .before .if2 .left)) (c .before .before .if3 .taken))
-
-blanks-requires : tie.Need-blanks-requires
-blanks-requires c κs = search needs
 
 returns-4 : tie.Need-returns-4
 returns-4 c = c .blanks .ensures ∙ sym (amount-none _ _ _ (sym (c .before .before .before .before .before .is-sign .ensures) ∙ (c .before .before .before .before .if1 .left)) (sym (c .before .before .before .is-value .ensures) ∙ (c .before .before .if2 .left)) (c .before .if3 .left))
@@ -61,17 +31,17 @@ pub amount-numeral-spec : {M : Type 1} → statement M
 amount-numeral-spec =
     tie.close
     (tie.spec
-    is-negative-requires
-    magnitude-requires
-    is-sign-requires
-    sign-digit-requires
-    digits-requires
+    (λ c κs. search needs)
+    (λ c κs. search needs)
+    (λ c κs. search needs)
+    (λ c κs. search needs)
+    (λ c κs. search needs)
     returns
-    is-value-requires
-    digits-requires-2
+    (λ c κs. search needs)
+    (λ c κs. search needs)
     returns-2
-    departure-number-requires
-    digits-requires-3
+    (λ c κs. search needs)
+    (λ c κs. search needs)
     returns-3
-    blanks-requires
+    (λ c κs. search needs)
     returns-4)

@@ -5,17 +5,8 @@ use borrow.Author.Tests.{not-false, not-true}
 use Rattle.spelling.proofs.is_same.Statement.{statement}
 use Rattle.spelling.proofs.is_same.Tie as tie
 
-parts-of-requires : tie.Need-parts-of-requires
-parts-of-requires c κs = search needs
-
-parts-of-requires-2 : tie.Need-parts-of-requires-2
-parts-of-requires-2 c κs = search needs
-
 returns : tie.Need-returns
 returns c = other-case _ _ _ _ (c .before .before .before .before .parts-of .ensures) (c .before .before .before .parts-of2 .ensures) (c .if1 .taken)
-
-same-requires : tie.Need-same-requires
-same-requires c κs = search needs
 
 returns-2 : tie.Need-returns-2
 returns-2 c = other-sign _ _ _ _ (c .before .before .before .before .before .before .parts-of .ensures) (c .before .before .before .before .before .parts-of2 .ensures) (c .before .before .if1 .left) _ (c .before .same .ensures) (not-true _ (c .if2 .taken))
@@ -33,10 +24,10 @@ pub is-same-spec : {M : Type 1} → statement M
 is-same-spec =
     tie.close
     (tie.spec
-    parts-of-requires
-    parts-of-requires-2
+    (λ c κs. search needs)
+    (λ c κs. search needs)
     returns
-    same-requires
+    (λ c κs. search needs)
     returns-2
     returns-3
     returns-4

@@ -15,36 +15,6 @@ use Rattle.spelling.proofs.numeral_for.Tie as tie
 at-reading : (ed : Edition) (e : ℕ) {a b : Reading} → a ≡ b → numeralFor ed e b ≡ numeralFor ed e a
 at-reading ed e f = sym (ap (numeralFor ed e) f)
 
-enum-told : tie.Need-enum-told
-enum-told c = search needs
-
-blanks-requires : tie.Need-blanks-requires
-blanks-requires c κs = search needs
-
-enum-known-reading : tie.Need-enum-known-reading
-enum-known-reading c = search needs
-
-digits-requires : tie.Need-digits-requires
-digits-requires c κs = search needs
-
-enum-known-reading-2 : tie.Need-enum-known-reading-2
-enum-known-reading-2 c = search needs
-
-bytes-requires : tie.Need-bytes-requires
-bytes-requires c κs = search needs
-
-enum-known-reading-3 : tie.Need-enum-known-reading-3
-enum-known-reading-3 c = search needs
-
-amount-numeral-requires : tie.Need-amount-numeral-requires
-amount-numeral-requires c κs = search needs
-
-enum-known-reading-4 : tie.Need-enum-known-reading-4
-enum-known-reading-4 c = search needs
-
-place-numeral-requires : tie.Need-place-numeral-requires
-place-numeral-requires c κs = search needs
-
 returns : tie.Need-returns
 unfolding numeralFor
 returns c = with-fit (c .before .before .before .args .edition) (c .before .before .before .args .e) (c .before .before .before .args .reading) (c .blanks .ensures ∙ at-reading (c .before .before .before .args .edition) (c .before .before .before .args .e) (c .before .enum-told .given .1))
@@ -69,16 +39,16 @@ pub numeral-for-spec : {M : Type 1} → statement M
 numeral-for-spec =
     tie.close
     (tie.spec
-    enum-told
-    blanks-requires
-    enum-known-reading
-    digits-requires
-    enum-known-reading-2
-    bytes-requires
-    enum-known-reading-3
-    amount-numeral-requires
-    enum-known-reading-4
-    place-numeral-requires
+    (λ c. search needs)
+    (λ c κs. search needs)
+    (λ c. search needs)
+    (λ c κs. search needs)
+    (λ c. search needs)
+    (λ c κs. search needs)
+    (λ c. search needs)
+    (λ c κs. search needs)
+    (λ c. search needs)
+    (λ c κs. search needs)
     returns
     returns-2
     returns-3

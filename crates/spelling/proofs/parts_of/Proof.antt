@@ -9,36 +9,6 @@ use mathlib.Core.Path.{_∙_, ap}
 use Rattle.spelling.proofs.parts_of.Statement.{statement}
 use Rattle.spelling.proofs.parts_of.Tie as tie
 
-enum-told : tie.Need-enum-told
-enum-told c = search needs
-
-enum-known-reading : tie.Need-enum-known-reading
-enum-known-reading c = search needs
-
-enum-known-reading-2 : tie.Need-enum-known-reading-2
-enum-known-reading-2 c = search needs
-
-enum-known-reading-3 : tie.Need-enum-known-reading-3
-enum-known-reading-3 c = search needs
-
-is-negative-requires : tie.Need-is-negative-requires
-is-negative-requires c κs = search needs
-
-magnitude-requires : tie.Need-magnitude-requires
-magnitude-requires c κs = search needs
-
-kind-number-requires : tie.Need-kind-number-requires
-kind-number-requires c κs = search needs
-
-enum-known-reading-4 : tie.Need-enum-known-reading-4
-enum-known-reading-4 c = search needs
-
-is-negative-requires-2 : tie.Need-is-negative-requires-2
-is-negative-requires-2 c κs = search needs
-
-magnitude-requires-2 : tie.Need-magnitude-requires-2
-magnitude-requires-2 c κs = search needs
-
 returns : tie.Need-returns
 unfolding partsOf
 returns c = at-parts (c .enum-told .given .1)
@@ -61,16 +31,16 @@ pub parts-of-spec : {M : Type 1} → statement M
 parts-of-spec =
     tie.close
     (tie.spec
-    enum-told
-    enum-known-reading
-    enum-known-reading-2
-    enum-known-reading-3
-    is-negative-requires
-    magnitude-requires
-    kind-number-requires
-    enum-known-reading-4
-    is-negative-requires-2
-    magnitude-requires-2
+    (λ c. search needs)
+    (λ c. search needs)
+    (λ c. search needs)
+    (λ c. search needs)
+    (λ c κs. search needs)
+    (λ c κs. search needs)
+    (λ c κs. search needs)
+    (λ c. search needs)
+    (λ c κs. search needs)
+    (λ c κs. search needs)
     returns
     returns-2
     returns-3

@@ -6,24 +6,6 @@ use mathlib.Core.Path.{_∙_, ap, sym}
 use Rattle.spelling.proofs.place_numeral.Statement.{statement}
 use Rattle.spelling.proofs.place_numeral.Tie as tie
 
-digits-requires : tie.Need-digits-requires
-digits-requires c κs = search needs
-
-latitude-figure-requires : tie.Need-latitude-figure-requires
-latitude-figure-requires c κs = search needs
-
-digits-requires-2 : tie.Need-digits-requires-2
-digits-requires-2 c κs = search needs
-
-longitude-figure-requires : tie.Need-longitude-figure-requires
-longitude-figure-requires c κs = search needs
-
-digits-requires-3 : tie.Need-digits-requires-3
-digits-requires-3 c κs = search needs
-
-blanks-requires : tie.Need-blanks-requires
-blanks-requires c κs = search needs
-
 returns : tie.Need-returns
 returns c = c .digits .ensures ∙ sym (place-digit _ _ _ (c .before .match .keys1))
 
@@ -39,4 +21,4 @@ returns-4 c = c .blanks .ensures ∙ sym (place-none _ _ _ (c .before .match .re
 pub place-numeral-spec : {M : Type 1} → statement M
 place-numeral-spec =
     tie.close
-    (tie.spec digits-requires latitude-figure-requires digits-requires-2 longitude-figure-requires digits-requires-3 blanks-requires returns returns-2 returns-3 returns-4)
+    (tie.spec (λ c κs. search needs) (λ c κs. search needs) (λ c κs. search needs) (λ c κs. search needs) (λ c κs. search needs) (λ c κs. search needs) returns returns-2 returns-3 returns-4)

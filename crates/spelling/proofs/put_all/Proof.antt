@@ -49,12 +49,6 @@ loop-holds : tie.Need-loop-holds Inv-loop μ-loop
 unfolding startOf columns
 loop-holds c = (c .before .pre, (refl, (search needs, (search needs, refl))))
 
-width-of-requires : tie.Need-width-of-requires Inv-loop μ-loop
-width-of-requires c κs = search needs
-
-lead-of-requires : tie.Need-lead-of-requires Inv-loop μ-loop
-lead-of-requires c κs = search needs
-
 sub-k : tie.Need-sub-k Inv-loop μ-loop
 sub-k c = omega (arith, lead c)
 
@@ -64,20 +58,11 @@ mul-entry c = omega (arith, lead c)
 array-copy-out-entry : tie.Need-array-copy-out-entry Inv-loop μ-loop
 array-copy-out-entry c = omega (arith, lead c)
 
-numeral-for-requires : tie.Need-numeral-for-requires Inv-loop μ-loop
-numeral-for-requires c κs = search needs
-
 put-requires : tie.Need-put-requires Inv-loop μ-loop
 put-requires c κs = (omega (arith, ends (wide c) .1, turn (wide c) .loop .inv .0), c .numeral-for .ensures .1)
 
 add-at : tie.Need-add-at Inv-loop μ-loop
 add-at c = omega (arith, ends (wide (c .before .before .before)) .1)
-
-add-e : tie.Need-add-e Inv-loop μ-loop
-add-e c = search needs
-
-loop-less : tie.Need-loop-less Inv-loop μ-loop
-loop-less c = search needs
 
 loop-again : tie.Need-loop-again Inv-loop μ-loop
 loop-again c =
@@ -106,4 +91,4 @@ returns c = row-end _ _ _ _ _ _ (c .before .loop .inv .1 .1 .1 .1) (c .before .l
 pub put-all-spec : {M : Type 1} → statement M
 put-all-spec =
     tie.close
-    (tie.spec Inv-loop μ-loop loop-holds width-of-requires lead-of-requires sub-k mul-entry array-copy-out-entry numeral-for-requires put-requires add-at add-e loop-less loop-again same-length returns)
+    (tie.spec Inv-loop μ-loop loop-holds (λ c κs. search needs) (λ c κs. search needs) sub-k mul-entry array-copy-out-entry (λ c κs. search needs) put-requires add-at (λ c. search needs) (λ c. search needs) loop-again same-length returns)

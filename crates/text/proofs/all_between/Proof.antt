@@ -15,12 +15,6 @@ Inv-loop text lo hi i₀ i = (i ≤ length text) × (every (between lo hi) text 
 abbrev μ-loop : tie.MeasureT-loop
 μ-loop text lo hi i₀ i = length text - i
 
-loop-holds : tie.Need-loop-holds Inv-loop μ-loop
-loop-holds c = search needs
-
-shared-slice-read-b : tie.Need-shared-slice-read-b Inv-loop μ-loop
-shared-slice-read-b c = search needs
-
 returns : tie.Need-returns Inv-loop μ-loop
 returns c =
     sym (c .before .before .before .loop .inv .1 ∙ off (between _ _) _ _ (c .before .before .loop-test .taken) (rw (lt-leb _ _ (c .if1 .taken))))
@@ -29,12 +23,6 @@ returns-2 : tie.Need-returns-2 Inv-loop μ-loop
 returns-2 c =
     sym (c .before .before .before .before .loop .inv .1 ∙
     off (between _ _) _ _ (c .before .before .before .loop-test .taken) (rw (le-leb _ _ (c .before .if1 .left), lt-leb _ _ (c .if2 .taken))))
-
-add-i : tie.Need-add-i Inv-loop μ-loop
-add-i c = search needs
-
-loop-less : tie.Need-loop-less Inv-loop μ-loop
-loop-less c = search needs
 
 loop-again : tie.Need-loop-again Inv-loop μ-loop
 loop-again c = (
@@ -52,11 +40,11 @@ all-between-spec =
     (tie.spec
     Inv-loop
     μ-loop
-    loop-holds
-    shared-slice-read-b
+    (λ c. search needs)
+    (λ c. search needs)
     returns
     returns-2
-    add-i
-    loop-less
+    (λ c. search needs)
+    (λ c. search needs)
     loop-again
     returns-3)

@@ -21,20 +21,8 @@ abbrev μ-loop : tie.MeasureT-loop
 loop-holds : tie.Need-loop-holds Inv-loop μ-loop
 loop-holds c = (search needs, end (between 32 32) (c .args .text .now) _ (le-refl _))
 
-sub-if1 : tie.Need-sub-if1 Inv-loop μ-loop
-sub-if1 c = search needs
-
-shared-slice-read-if1 : tie.Need-shared-slice-read-if1 Inv-loop μ-loop
-shared-slice-read-if1 c = search needs
-
 returns : tie.Need-returns Inv-loop μ-loop
 returns c = (search needs, stops _ _ (c .before .before .before .loop .inv .0) (c .before .before .loop-test .taken) (c .before .before .before .loop .inv .1) (c .if1 .taken))
-
-sub-n : tie.Need-sub-n Inv-loop μ-loop
-sub-n c = search needs
-
-loop-less : tie.Need-loop-less Inv-loop μ-loop
-loop-less c = search needs
 
 loop-again : tie.Need-loop-again Inv-loop μ-loop
 loop-again c = (omega arith, goes-back _ _ (c .before .before .before .loop .inv .0) (c .before .before .loop-test .taken) (c .before .before .before .loop .inv .1) (c .if1 .left))
@@ -49,10 +37,10 @@ filled-spec =
     Inv-loop
     μ-loop
     loop-holds
-    sub-if1
-    shared-slice-read-if1
+    (λ c. search needs)
+    (λ c. search needs)
     returns
-    sub-n
-    loop-less
+    (λ c. search needs)
+    (λ c. search needs)
     loop-again
     returns-2)

@@ -21,26 +21,8 @@ abbrev μ-loop : tie.MeasureT-loop
 passed : (p : ℕ → Bool) {x y : ℕ} {t : Bool} → t ≡ p y → y ≡ x → t ≡ p x
 passed p e f = e ∙ ap p f
 
-loop-holds : tie.Need-loop-holds Inv-loop μ-loop
-loop-holds c = search needs
-
-shared-slice-read-wide : tie.Need-shared-slice-read-wide Inv-loop μ-loop
-shared-slice-read-wide c = search needs
-
-wide-requires : tie.Need-wide-requires Inv-loop μ-loop
-wide-requires c κs = search needs
-
-is-either-requires : tie.Need-is-either-requires Inv-loop μ-loop
-is-either-requires c κs = search needs
-
 returns : tie.Need-returns Inv-loop μ-loop
 returns c = run-off (either _ _ _ _) _ _ (c .before .before .before .before .before .loop .inv .1) (c .before .before .before .before .loop-test .taken) (sym (passed (either _ _ _ _) (c .before .is-either .ensures) (c .before .before .wide .ensures)) ∙ not-true _ (c .if1 .taken))
-
-add-i : tie.Need-add-i Inv-loop μ-loop
-add-i c = search needs
-
-loop-less : tie.Need-loop-less Inv-loop μ-loop
-loop-less c = search needs
 
 loop-again : tie.Need-loop-again Inv-loop μ-loop
 loop-again c = (
@@ -57,12 +39,12 @@ front-spec =
     (tie.spec
     Inv-loop
     μ-loop
-    loop-holds
-    shared-slice-read-wide
-    wide-requires
-    is-either-requires
+    (λ c. search needs)
+    (λ c. search needs)
+    (λ c κs. search needs)
+    (λ c κs. search needs)
     returns
-    add-i
-    loop-less
+    (λ c. search needs)
+    (λ c. search needs)
     loop-again
     returns-2)

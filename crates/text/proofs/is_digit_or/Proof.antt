@@ -5,18 +5,9 @@ use borrow.Author.Needs.{needs}
 use Rattle.text.proofs.is_digit_or.Statement.{statement}
 use Rattle.text.proofs.is_digit_or.Tie as tie
 
-wide-requires : tie.Need-wide-requires
-wide-requires c κs = search needs
-
-wide-requires-2 : tie.Need-wide-requires-2
-wide-requires-2 c κs = search needs
-
-front-requires : tie.Need-front-requires
-front-requires c κs = search needs
-
 returns : tie.Need-returns
 unfolding allows
 returns c = digit-or _ _ (c .before .before .wide .ensures) _ (c .before .wide2 .ensures) _ (c .front .ensures)
 
 pub is-digit-or-spec : {M : Type 1} → statement M
-is-digit-or-spec = tie.close (tie.spec wide-requires wide-requires-2 front-requires returns)
+is-digit-or-spec = tie.close (tie.spec (λ c κs. search needs) (λ c κs. search needs) (λ c κs. search needs) returns)

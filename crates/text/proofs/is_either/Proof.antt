@@ -4,12 +4,6 @@ use borrow.Author.Needs.{needs}
 use Rattle.text.proofs.is_either.Statement.{statement}
 use Rattle.text.proofs.is_either.Tie as tie
 
-is-between-requires : tie.Need-is-between-requires
-is-between-requires c κs = search needs
-
-is-between-requires-2 : tie.Need-is-between-requires-2
-is-between-requires-2 c κs = search needs
-
 returns : tie.Need-returns
 returns c = or-holds _ _ (c .before .is-between .ensures) _ (c .if1 .taken)
 
@@ -17,4 +11,4 @@ returns-2 : tie.Need-returns-2
 returns-2 c = or-goes-on _ _ (c .before .before .is-between .ensures) _ _ (c .before .if1 .left) (c .is-between2 .ensures)
 
 pub is-either-spec : {M : Type 1} → statement M
-is-either-spec = tie.close (tie.spec is-between-requires is-between-requires-2 returns returns-2)
+is-either-spec = tie.close (tie.spec (λ c κs. search needs) (λ c κs. search needs) returns returns-2)

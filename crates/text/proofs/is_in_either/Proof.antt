@@ -6,18 +6,6 @@ use borrow.Author.Needs.{needs}
 use Rattle.text.proofs.is_in_either.Statement.{statement}
 use Rattle.text.proofs.is_in_either.Tie as tie
 
-numeral-of-requires : tie.Need-numeral-of-requires
-numeral-of-requires c κs = search needs
-
-enum-known-n : tie.Need-enum-known-n
-enum-known-n c = search needs
-
-is-either-requires : tie.Need-is-either-requires
-is-either-requires c κs = search needs
-
-enum-told : tie.Need-enum-told
-enum-told c = search needs
-
 returns : tie.Need-returns
 unfolding allows
 returns c = with-digits (either _ _ _ _) _ _ (c .before .before .before .before .numeral-of .ensures) _ (c .before .before .n .given .1) _ (c .is-either .ensures)
@@ -29,4 +17,4 @@ returns-2 c = without-digits (either _ _ _ _) _ _ (c .before .before .numeral-of
 pub is-in-either-spec : {M : Type 1} → statement M
 is-in-either-spec =
     tie.close
-    (tie.spec numeral-of-requires enum-known-n is-either-requires enum-told returns returns-2)
+    (tie.spec (λ c κs. search needs) (λ c. search needs) (λ c κs. search needs) (λ c. search needs) returns returns-2)

@@ -12,51 +12,6 @@ use Rattle.text.proofs.is_one.Tie as tie
 at-texts : {s s′ : Texts} (t : List ℕ) → s ≡ s′ → allows s′ t ≡ allows s t
 at-texts t e = sym (ap (λ (q : Texts). allows q t) e)
 
-enum-told : tie.Need-enum-told
-enum-told c = search needs
-
-enum-told-2 : tie.Need-enum-told-2
-enum-told-2 c = search needs
-
-all-between-requires : tie.Need-all-between-requires
-all-between-requires c κs = search needs
-
-enum-told-3 : tie.Need-enum-told-3
-enum-told-3 c = search needs
-
-all-between-requires-2 : tie.Need-all-between-requires-2
-all-between-requires-2 c κs = search needs
-
-enum-told-4 : tie.Need-enum-told-4
-enum-told-4 c = search needs
-
-is-call-sign-requires : tie.Need-is-call-sign-requires
-is-call-sign-requires c κs = search needs
-
-enum-known-texts : tie.Need-enum-known-texts
-enum-known-texts c = search needs
-
-is-digit-or-requires : tie.Need-is-digit-or-requires
-is-digit-or-requires c κs = search needs
-
-enum-known-texts-2 : tie.Need-enum-known-texts-2
-enum-known-texts-2 c = search needs
-
-is-within-requires : tie.Need-is-within-requires
-is-within-requires c κs = search needs
-
-enum-known-texts-3 : tie.Need-enum-known-texts-3
-enum-known-texts-3 c = search needs
-
-is-in-either-requires : tie.Need-is-in-either-requires
-is-in-either-requires c κs = search needs
-
-enum-known-texts-4 : tie.Need-enum-known-texts-4
-enum-known-texts-4 c = search needs
-
-is-one-of-requires : tie.Need-is-one-of-requires
-is-one-of-requires c κs = search needs
-
 returns : tie.Need-returns
 unfolding allows
 returns c = at-texts _ (c .enum-told .given .1)
@@ -89,21 +44,21 @@ pub is-one-spec : {M : Type 1} → statement M
 is-one-spec =
     tie.close
     (tie.spec
-    enum-told
-    enum-told-2
-    all-between-requires
-    enum-told-3
-    all-between-requires-2
-    enum-told-4
-    is-call-sign-requires
-    enum-known-texts
-    is-digit-or-requires
-    enum-known-texts-2
-    is-within-requires
-    enum-known-texts-3
-    is-in-either-requires
-    enum-known-texts-4
-    is-one-of-requires
+    (λ c. search needs)
+    (λ c. search needs)
+    (λ c κs. search needs)
+    (λ c. search needs)
+    (λ c κs. search needs)
+    (λ c. search needs)
+    (λ c κs. search needs)
+    (λ c. search needs)
+    (λ c κs. search needs)
+    (λ c. search needs)
+    (λ c κs. search needs)
+    (λ c. search needs)
+    (λ c κs. search needs)
+    (λ c. search needs)
+    (λ c κs. search needs)
     returns
     returns-2
     returns-3

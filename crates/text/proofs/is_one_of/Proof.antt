@@ -5,18 +5,6 @@ use borrow.Author.Needs.{needs}
 use Rattle.text.proofs.is_one_of.Statement.{statement}
 use Rattle.text.proofs.is_one_of.Tie as tie
 
-numeral-of-requires : tie.Need-numeral-of-requires
-numeral-of-requires c κs = search needs
-
-enum-known-n : tie.Need-enum-known-n
-enum-known-n c = search needs
-
-is-among-requires : tie.Need-is-among-requires
-is-among-requires c κs = search needs
-
-enum-told : tie.Need-enum-told
-enum-told c = search needs
-
 returns : tie.Need-returns
 unfolding allows
 returns c = with-digits (among _ _ _ _) _ _ (c .before .before .before .before .numeral-of .ensures) _ (c .before .before .n .given .1) _ (c .is-among .ensures)
@@ -28,4 +16,4 @@ returns-2 c = without-digits (among _ _ _ _) _ _ (c .before .before .numeral-of 
 pub is-one-of-spec : {M : Type 1} → statement M
 is-one-of-spec =
     tie.close
-    (tie.spec numeral-of-requires enum-known-n is-among-requires enum-told returns returns-2)
+    (tie.spec (λ c κs. search needs) (λ c. search needs) (λ c κs. search needs) (λ c. search needs) returns returns-2)

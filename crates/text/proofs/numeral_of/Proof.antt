@@ -19,12 +19,6 @@ abbrev μ-loop : tie.MeasureT-loop
 small : (c : tie.In-loop Inv-loop μ-loop) → c .before .loop .n < 230000000
 small c = below-seven _ _ (c .before .loop .inv .1 .0) (omega arith)
 
-loop-holds : tie.Need-loop-holds Inv-loop μ-loop
-loop-holds c = search needs
-
-shared-slice-read-b : tie.Need-shared-slice-read-b Inv-loop μ-loop
-shared-slice-read-b c = search needs
-
 returns : tie.Need-returns Inv-loop μ-loop
 returns c = sym (c .before .before .before .loop .inv .1 .1 ∙ no-digit _ _ _ (c .before .before .loop-test .taken) (rw (lt-leb _ _ (c .if1 .taken))))
 
@@ -34,17 +28,8 @@ returns-2 c = sym (c .before .before .before .before .loop .inv .1 .1 ∙ no-dig
 mul-n : tie.Need-mul-n Inv-loop μ-loop
 mul-n c = omega (arith, small (c .before .before .before))
 
-wide-requires : tie.Need-wide-requires Inv-loop μ-loop
-wide-requires c κs = search needs
-
 add-n : tie.Need-add-n Inv-loop μ-loop
 add-n c = omega (arith, small (c .before .before .before .before), c .wide .ensures)
-
-add-i : tie.Need-add-i Inv-loop μ-loop
-add-i c = search needs
-
-loop-less : tie.Need-loop-less Inv-loop μ-loop
-loop-less c = search needs
 
 loop-again : tie.Need-loop-again Inv-loop μ-loop
 loop-again c = (
@@ -65,14 +50,14 @@ numeral-of-spec =
     (tie.spec
     Inv-loop
     μ-loop
-    loop-holds
-    shared-slice-read-b
+    (λ c. search needs)
+    (λ c. search needs)
     returns
     returns-2
     mul-n
-    wide-requires
+    (λ c κs. search needs)
     add-n
-    add-i
-    loop-less
+    (λ c. search needs)
+    (λ c. search needs)
     loop-again
     returns-3)

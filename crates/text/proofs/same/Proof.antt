@@ -7,8 +7,5 @@ use Rattle.text.proofs.same.Tie as tie
 returns : tie.Need-returns
 returns c = same-true _ _ (c .if1 .taken)
 
-returns-2 : tie.Need-returns-2
-returns-2 c = search needs
-
 pub same-spec : {M : Type 1} → statement M
-same-spec = tie.close (tie.spec returns returns-2)
+same-spec = tie.close (tie.spec returns (λ c. search needs))

@@ -9,30 +9,6 @@ use borrow.Author.Needs.{needs}
 use Rattle.ties.proofs.day_tie.Statement.{statement}
 use Rattle.ties.proofs.day_tie.Tie as tie
 
-text-of-requires : tie.Need-text-of-requires
-text-of-requires c κs = search needs
-
-number-of-requires : tie.Need-number-of-requires
-number-of-requires c κs = search needs
-
-text-of-requires-2 : tie.Need-text-of-requires-2
-text-of-requires-2 c κs = search needs
-
-number-of-requires-2 : tie.Need-number-of-requires-2
-number-of-requires-2 c κs = search needs
-
-text-of-requires-3 : tie.Need-text-of-requires-3
-text-of-requires-3 c κs = search needs
-
-number-of-requires-3 : tie.Need-number-of-requires-3
-number-of-requires-3 c κs = search needs
-
-is-leap-requires : tie.Need-is-leap-requires
-is-leap-requires c κs = search needs
-
-last-day-requires : tie.Need-last-day-requires
-last-day-requires c κs = search needs
-
 returns : tie.Need-returns
 unfolding Ties.tie
 returns c = λ ed.
@@ -46,4 +22,4 @@ returns c = λ ed.
 
 pub day-tie-spec : {M : Type 1} → statement M
 day-tie-spec =
-    tie.close (tie.spec text-of-requires number-of-requires text-of-requires-2 number-of-requires-2 text-of-requires-3 number-of-requires-3 is-leap-requires last-day-requires returns)
+    tie.close (tie.spec (λ c κs. search needs) (λ c κs. search needs) (λ c κs. search needs) (λ c κs. search needs) (λ c κs. search needs) (λ c κs. search needs) (λ c κs. search needs) (λ c κs. search needs) returns)

@@ -7,48 +7,6 @@ use borrow.Author.Needs.{needs}
 use Rattle.ties.proofs.digit_tie.Statement.{statement}
 use Rattle.ties.proofs.digit_tie.Tie as tie
 
-text-of-requires : tie.Need-text-of-requires
-text-of-requires c κs = search needs
-
-text-of-requires-2 : tie.Need-text-of-requires-2
-text-of-requires-2 c κs = search needs
-
-tenths-fit-requires : tie.Need-tenths-fit-requires
-tenths-fit-requires c κs = search needs
-
-text-of-requires-3 : tie.Need-text-of-requires-3
-text-of-requires-3 c κs = search needs
-
-text-of-requires-4 : tie.Need-text-of-requires-4
-text-of-requires-4 c κs = search needs
-
-measured-fit-requires : tie.Need-measured-fit-requires
-measured-fit-requires c κs = search needs
-
-text-of-requires-5 : tie.Need-text-of-requires-5
-text-of-requires-5 c κs = search needs
-
-tenths-fit-requires-2 : tie.Need-tenths-fit-requires-2
-tenths-fit-requires-2 c κs = search needs
-
-text-of-requires-6 : tie.Need-text-of-requires-6
-text-of-requires-6 c κs = search needs
-
-text-of-requires-7 : tie.Need-text-of-requires-7
-text-of-requires-7 c κs = search needs
-
-measured-fit-requires-2 : tie.Need-measured-fit-requires-2
-measured-fit-requires-2 c κs = search needs
-
-both-requires : tie.Need-both-requires
-both-requires c κs = search needs
-
-both-requires-2 : tie.Need-both-requires-2
-both-requires-2 c κs = search needs
-
-both-requires-3 : tie.Need-both-requires-3
-both-requires-3 c κs = search needs
-
 returns : tie.Need-returns
 unfolding Ties.tie digitTie
 returns c = λ ed.
@@ -66,18 +24,18 @@ pub digit-tie-spec : {M : Type 1} → statement M
 digit-tie-spec =
     tie.close
     (tie.spec
-    text-of-requires
-    text-of-requires-2
-    tenths-fit-requires
-    text-of-requires-3
-    text-of-requires-4
-    measured-fit-requires
-    text-of-requires-5
-    tenths-fit-requires-2
-    text-of-requires-6
-    text-of-requires-7
-    measured-fit-requires-2
-    both-requires
-    both-requires-2
-    both-requires-3
+    (λ c κs. search needs)
+    (λ c κs. search needs)
+    (λ c κs. search needs)
+    (λ c κs. search needs)
+    (λ c κs. search needs)
+    (λ c κs. search needs)
+    (λ c κs. search needs)
+    (λ c κs. search needs)
+    (λ c κs. search needs)
+    (λ c κs. search needs)
+    (λ c κs. search needs)
+    (λ c κs. search needs)
+    (λ c κs. search needs)
+    (λ c κs. search needs)
     returns)

@@ -25,17 +25,8 @@ loop-holds : tie.Need-loop-holds Inv-loop μ-loop
 unfolding firstBroken
 loop-holds c = begin (tie _ _) last
 
-holds-requires : tie.Need-holds-requires Inv-loop μ-loop
-holds-requires c κs = search needs
-
 returns : tie.Need-returns Inv-loop μ-loop
 returns c = sym (c .before .before .before .loop .inv ∙ off (tie _ _) last _ (c .before .before .loop-test .taken) (sym (c .before .holds .ensures) ∙ not-true _ (c .if1 .taken)))
-
-add-k : tie.Need-add-k Inv-loop μ-loop
-add-k c = search needs
-
-loop-less : tie.Need-loop-less Inv-loop μ-loop
-loop-less c = search needs
 
 loop-again : tie.Need-loop-again Inv-loop μ-loop
 loop-again c = c .before .before .before .loop .inv ∙ on (tie _ _) last _ (c .before .before .loop-test .taken) (sym (c .before .holds .ensures) ∙ not-false _ (c .if1 .left))
@@ -50,9 +41,9 @@ first-broken-spec =
     Inv-loop
     μ-loop
     loop-holds
-    holds-requires
+    (λ c κs. search needs)
     returns
-    add-k
-    loop-less
+    (λ c. search needs)
+    (λ c. search needs)
     loop-again
     returns-2)

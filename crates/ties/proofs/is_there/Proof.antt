@@ -5,11 +5,8 @@ use mathlib.Core.Path.{ap}
 use Rattle.ties.proofs.is_there.Statement.{statement}
 use Rattle.ties.proofs.is_there.Tie as tie
 
-is-blank-requires : tie.Need-is-blank-requires
-is-blank-requires c κs = search needs
-
 returns : tie.Need-returns
 returns c = ap not (c .is-blank .ensures)
 
 pub is-there-spec : {M : Type 1} → statement M
-is-there-spec = tie.close (tie.spec is-blank-requires returns)
+is-there-spec = tie.close (tie.spec (λ c κs. search needs) returns)

@@ -6,18 +6,6 @@ use borrow.Author.Needs.{needs}
 use Rattle.ties.proofs.octant_holds.Statement.{statement}
 use Rattle.ties.proofs.octant_holds.Tie as tie
 
-is-blank-requires : tie.Need-is-blank-requires
-is-blank-requires c κs = search needs
-
-number-of-requires : tie.Need-number-of-requires
-number-of-requires c κs = search needs
-
-number-of-requires-2 : tie.Need-number-of-requires-2
-number-of-requires-2 c κs = search needs
-
-octant-fits-requires : tie.Need-octant-fits-requires
-octant-fits-requires c κs = search needs
-
 returns : tie.Need-returns
 unfolding octantTie
 returns c = or-holds _ _ (c .before .is-blank .ensures) _ (c .if1 .taken)
@@ -30,9 +18,9 @@ pub octant-holds-spec : {M : Type 1} → statement M
 octant-holds-spec =
     tie.close
     (tie.spec
-    is-blank-requires
-    number-of-requires
-    number-of-requires-2
-    octant-fits-requires
+    (λ c κs. search needs)
+    (λ c κs. search needs)
+    (λ c κs. search needs)
+    (λ c κs. search needs)
     returns
     returns-2)

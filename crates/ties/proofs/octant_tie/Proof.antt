@@ -12,18 +12,6 @@ use Rattle.ties.proofs.octant_tie.Tie as tie
 at-edition : {a b : Edition} (digit longitude : List ℕ) → a ≡ b → octantTie b digit longitude ≡ octantTie a digit longitude
 at-edition digit longitude e = sym (ap (λ (ed : Edition). octantTie ed digit longitude) e)
 
-enum-told : tie.Need-enum-told
-enum-told c = search needs
-
-octant-holds-requires : tie.Need-octant-holds-requires
-octant-holds-requires c κs = search needs
-
-enum-told-2 : tie.Need-enum-told-2
-enum-told-2 c = search needs
-
-enum-told-3 : tie.Need-enum-told-3
-enum-told-3 c = search needs
-
 returns : tie.Need-returns
 returns c = c .octant-holds .ensures ∙ at-edition _ _ (c .before .enum-told .given .1)
 
@@ -38,4 +26,4 @@ returns-3 c = at-edition _ _ (c .enum-told3 .given .1)
 pub octant-tie-spec : {M : Type 1} → statement M
 octant-tie-spec =
     tie.close
-    (tie.spec enum-told octant-holds-requires enum-told-2 enum-told-3 returns returns-2 returns-3)
+    (tie.spec (λ c. search needs) (λ c κs. search needs) (λ c. search needs) (λ c. search needs) returns returns-2 returns-3)

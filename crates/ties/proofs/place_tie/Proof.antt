@@ -4,21 +4,6 @@ use borrow.Author.Needs.{needs}
 use Rattle.ties.proofs.place_tie.Statement.{statement}
 use Rattle.ties.proofs.place_tie.Tie as tie
 
-is-there-requires : tie.Need-is-there-requires
-is-there-requires c κs = search needs
-
-is-there-requires-2 : tie.Need-is-there-requires-2
-is-there-requires-2 c κs = search needs
-
-same-requires : tie.Need-same-requires
-same-requires c κs = search needs
-
-is-there-requires-3 : tie.Need-is-there-requires-3
-is-there-requires-3 c κs = search needs
-
-same-requires-2 : tie.Need-same-requires-2
-same-requires-2 c κs = search needs
-
 returns : tie.Need-returns
 returns c = place-goes-on _ _ _ _ _ (c .before .before .before .before .is-there2 .ensures) (c .before .before .before .before .before .is-there .ensures) (c .before .before .before .same .ensures) _ (c .before .before .if1 .taken) _ _ (c .before .is-there3 .ensures) (c .same2 .ensures)
 
@@ -29,10 +14,10 @@ pub place-tie-spec : {M : Type 1} → statement M
 place-tie-spec =
     tie.close
     (tie.spec
-    is-there-requires
-    is-there-requires-2
-    same-requires
-    is-there-requires-3
-    same-requires-2
+    (λ c κs. search needs)
+    (λ c κs. search needs)
+    (λ c κs. search needs)
+    (λ c κs. search needs)
+    (λ c κs. search needs)
     returns
     returns-2)

@@ -5,17 +5,8 @@ use borrow.Author.Needs.{needs}
 use Rattle.ties.proofs.tenths_fit.Statement.{statement}
 use Rattle.ties.proofs.tenths_fit.Tie as tie
 
-number-of-requires : tie.Need-number-of-requires
-number-of-requires c κs = search needs
-
-number-of-requires-2 : tie.Need-number-of-requires-2
-number-of-requires-2 c κs = search needs
-
-last-digit-requires : tie.Need-last-digit-requires
-last-digit-requires c κs = search needs
-
 returns : tie.Need-returns
 returns c = of-two lastDigit (c .last-digit .ensures) (c .before .before .number-of .ensures) (c .before .number-of2 .ensures)
 
 pub tenths-fit-spec : {M : Type 1} → statement M
-tenths-fit-spec = tie.close (tie.spec number-of-requires number-of-requires-2 last-digit-requires returns)
+tenths-fit-spec = tie.close (tie.spec (λ c κs. search needs) (λ c κs. search needs) (λ c κs. search needs) returns)

@@ -5,12 +5,6 @@ use borrow.Author.Needs.{needs}
 use Rattle.ties.proofs.wind_tie.Statement.{statement}
 use Rattle.ties.proofs.wind_tie.Tie as tie
 
-is-blank-requires : tie.Need-is-blank-requires
-is-blank-requires c κs = search needs
-
-is-there-requires : tie.Need-is-there-requires
-is-there-requires c κs = search needs
-
 returns : tie.Need-returns
 unfolding windTie
 returns c = or-holds _ _ (c .before .is-blank .ensures) _ (c .if1 .taken)
@@ -20,4 +14,4 @@ unfolding windTie
 returns-2 c = or-goes-on _ _ (c .before .before .is-blank .ensures) _ _ (c .before .if1 .left) (c .is-there .ensures)
 
 pub wind-tie-spec : {M : Type 1} → statement M
-wind-tie-spec = tie.close (tie.spec is-blank-requires is-there-requires returns returns-2)
+wind-tie-spec = tie.close (tie.spec (λ c κs. search needs) (λ c κs. search needs) returns returns-2)

@@ -8,17 +8,8 @@ use native.Mathlib.Omega.{arith}
 use Rattle.trial.proofs.amount_at.Statement.{statement}
 use Rattle.trial.proofs.amount_at.Tie as tie
 
-mul-result : tie.Need-mul-result
-mul-result c = search needs
-
-shared-slice-copy-out-result : tie.Need-shared-slice-copy-out-result
-shared-slice-copy-out-result c = search needs
-
-returns : tie.Need-returns
-returns c = search needs
-
 returns-2 : tie.Need-returns-2
 returns-2 c = sym (List·getD-eq-default (now (c .before .args .amounts)) (pos 0) (omega (arith, c .if1 .left)))
 
 pub amount-at-spec : {M : Type 1} → statement M
-amount-at-spec = tie.close (tie.spec mul-result shared-slice-copy-out-result returns returns-2)
+amount-at-spec = tie.close (tie.spec (λ c. search needs) (λ c. search needs) (λ c. search needs) returns-2)

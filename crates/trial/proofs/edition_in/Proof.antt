@@ -6,15 +6,6 @@ use mathlib.Core.Path.{_∙_}
 use Rattle.trial.proofs.edition_in.Statement.{statement}
 use Rattle.trial.proofs.edition_in.Tie as tie
 
-enum-known-answer : tie.Need-enum-known-answer
-enum-known-answer c = search needs
-
-number-requires : tie.Need-number-requires
-number-requires c κs = search needs
-
-enum-told : tie.Need-enum-told
-enum-told c = search needs
-
 returns : tie.Need-returns
 unfolding editionIn
 returns c = c .number .ensures ∙ at-edition (c .before .before .answer .given .1)
@@ -25,4 +16,4 @@ returns-2 c = at-edition (c .enum-told .given .1)
 
 pub edition-in-spec : {M : Type 1} → statement M
 edition-in-spec =
-    tie.close (tie.spec enum-known-answer number-requires enum-told returns returns-2)
+    tie.close (tie.spec (λ c. search needs) (λ c κs. search needs) (λ c. search needs) returns returns-2)

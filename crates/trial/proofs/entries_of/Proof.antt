@@ -25,15 +25,6 @@ reading-at-requires c κs = omega arith
 mul-entries : tie.Need-mul-entries Inv-loop μ-loop
 mul-entries c = omega arith
 
-array-set-from-entries : tie.Need-array-set-from-entries Inv-loop μ-loop
-array-set-from-entries c = search needs
-
-add-k : tie.Need-add-k Inv-loop μ-loop
-add-k c = search needs
-
-loop-less : tie.Need-loop-less Inv-loop μ-loop
-loop-less c = search needs
-
 loop-again : tie.Need-loop-again Inv-loop μ-loop
 loop-again c =
     let k = c .before .before .loop .k in
@@ -46,4 +37,4 @@ returns c = fill-end _ _ _ (c .before .loop .inv .1) (λ i l h. absurd (omega (a
 pub entries-of-spec : {M : Type 1} → statement M
 entries-of-spec =
     tie.close
-    (tie.spec Inv-loop μ-loop loop-holds reading-at-requires mul-entries array-set-from-entries add-k loop-less loop-again returns)
+    (tie.spec Inv-loop μ-loop loop-holds reading-at-requires mul-entries (λ c. search needs) (λ c. search needs) (λ c. search needs) loop-again returns)

@@ -6,24 +6,6 @@ use borrow.Author.Needs.{needs}
 use Rattle.trial.proofs.pack.Statement.{statement}
 use Rattle.trial.proofs.pack.Tie as tie
 
-enum-told : tie.Need-enum-told
-enum-told c = search needs
-
-enum-known-reading : tie.Need-enum-known-reading
-enum-known-reading c = search needs
-
-enum-known-reading-2 : tie.Need-enum-known-reading-2
-enum-known-reading-2 c = search needs
-
-enum-known-reading-3 : tie.Need-enum-known-reading-3
-enum-known-reading-3 c = search needs
-
-kind-number-requires : tie.Need-kind-number-requires
-kind-number-requires c κs = search needs
-
-enum-known-reading-4 : tie.Need-enum-known-reading-4
-enum-known-reading-4 c = search needs
-
 returns : tie.Need-returns
 unfolding packed
 returns c = at-packed (c .enum-told .given .1)
@@ -47,4 +29,4 @@ returns-5 c = rw (itself (c .before .before .reading4 .given .0 .0 .latitude) (r
 pub pack-spec : {M : Type 1} → statement M
 pack-spec =
     tie.close
-    (tie.spec enum-told enum-known-reading enum-known-reading-2 enum-known-reading-3 kind-number-requires enum-known-reading-4 returns returns-2 returns-3 returns-4 returns-5)
+    (tie.spec (λ c. search needs) (λ c. search needs) (λ c. search needs) (λ c. search needs) (λ c κs. search needs) (λ c. search needs) returns returns-2 returns-3 returns-4 returns-5)

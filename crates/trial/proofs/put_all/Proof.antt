@@ -37,62 +37,14 @@ fits c j h = let inv = turn c .before .loop .inv in omega (arith, inv .1 .0, inv
 loop-holds : tie.Need-loop-holds Inv-loop μ-loop
 loop-holds c = (omega arith, (c .before .pre .0, (c .before .pre .1, (refl, (refl, (refl, refl))))))
 
-mul-entry : tie.Need-mul-entry Inv-loop μ-loop
-mul-entry c = search needs
-
-element-copy-out-entry : tie.Need-element-copy-out-entry Inv-loop μ-loop
-element-copy-out-entry c = search needs
-
-pack-requires : tie.Need-pack-requires Inv-loop μ-loop
-pack-requires c κs = search needs
-
-mul-i : tie.Need-mul-i Inv-loop μ-loop
-mul-i c = search needs
-
-mul-numbers : tie.Need-mul-numbers Inv-loop μ-loop
-mul-numbers c = search needs
-
-slice-write-numbers : tie.Need-slice-write-numbers Inv-loop μ-loop
-slice-write-numbers c = search needs
-
-add-numbers : tie.Need-add-numbers Inv-loop μ-loop
-add-numbers c = search needs
-
-mul-numbers-2 : tie.Need-mul-numbers-2 Inv-loop μ-loop
-mul-numbers-2 c = search needs
-
 slice-write-numbers-2 : tie.Need-slice-write-numbers-2 Inv-loop μ-loop
 slice-write-numbers-2 c = search (needs, fits c 1 (lit< tt))
-
-add-numbers-2 : tie.Need-add-numbers-2 Inv-loop μ-loop
-add-numbers-2 c = search needs
-
-mul-numbers-3 : tie.Need-mul-numbers-3 Inv-loop μ-loop
-mul-numbers-3 c = search needs
 
 slice-write-numbers-3 : tie.Need-slice-write-numbers-3 Inv-loop μ-loop
 slice-write-numbers-3 c = search (needs, fits c 2 (lit< tt))
 
-add-numbers-3 : tie.Need-add-numbers-3 Inv-loop μ-loop
-add-numbers-3 c = search needs
-
-mul-numbers-4 : tie.Need-mul-numbers-4 Inv-loop μ-loop
-mul-numbers-4 c = search needs
-
 slice-write-numbers-4 : tie.Need-slice-write-numbers-4 Inv-loop μ-loop
 slice-write-numbers-4 c = search (needs, fits c 3 (lit< tt))
-
-mul-amount : tie.Need-mul-amount Inv-loop μ-loop
-mul-amount c = search needs
-
-slice-set-from-amount : tie.Need-slice-set-from-amount Inv-loop μ-loop
-slice-set-from-amount c = search needs
-
-add-k : tie.Need-add-k Inv-loop μ-loop
-add-k c = search needs
-
-loop-less : tie.Need-loop-less Inv-loop μ-loop
-loop-less c = search needs
 
 loop-again : tie.Need-loop-again Inv-loop μ-loop
 loop-again c =
@@ -138,4 +90,4 @@ returns c =
 pub put-all-spec : {M : Type 1} → statement M
 put-all-spec =
     tie.close
-    (tie.spec Inv-loop μ-loop loop-holds mul-entry element-copy-out-entry pack-requires mul-i mul-numbers slice-write-numbers add-numbers mul-numbers-2 slice-write-numbers-2 add-numbers-2 mul-numbers-3 slice-write-numbers-3 add-numbers-3 mul-numbers-4 slice-write-numbers-4 mul-amount slice-set-from-amount add-k loop-less loop-again same-length same-length-2 returns)
+    (tie.spec Inv-loop μ-loop loop-holds (λ c. search needs) (λ c. search needs) (λ c κs. search needs) (λ c. search needs) (λ c. search needs) (λ c. search needs) (λ c. search needs) (λ c. search needs) slice-write-numbers-2 (λ c. search needs) (λ c. search needs) slice-write-numbers-3 (λ c. search needs) (λ c. search needs) slice-write-numbers-4 (λ c. search needs) (λ c. search needs) (λ c. search needs) (λ c. search needs) loop-again same-length same-length-2 returns)

@@ -6,9 +6,6 @@ use borrow.Author.Tests.{ne-eqb}
 use Rattle.trial.proofs.reading_of.Statement.{statement}
 use Rattle.trial.proofs.reading_of.Tie as tie
 
-kind-of-requires : tie.Need-kind-of-requires
-kind-of-requires c κs = search needs
-
 returns : tie.Need-returns
 unfolding readingFrom
 returns c = rw (c .match .keys1)
@@ -31,4 +28,4 @@ returns-5 c = rw (ne-eqb _ _ (c .match .rest .0 .0 .0 .1), ne-eqb _ _ (c .match 
 
 pub reading-of-spec : {M : Type 1} → statement M
 reading-of-spec =
-    tie.close (tie.spec kind-of-requires returns returns-2 returns-3 returns-4 returns-5)
+    tie.close (tie.spec (λ c κs. search needs) returns returns-2 returns-3 returns-4 returns-5)

@@ -12,29 +12,8 @@ use mathlib.Core.Path.{_∙_, ap, sym}
 use Rattle.trial.proofs.trial_read.Statement.{statement}
 use Rattle.trial.proofs.trial_read.Tie as tie
 
-read-requires : tie.Need-read-requires
-read-requires c κs = search needs
-
-number-requires : tie.Need-number-requires
-number-requires c κs = search needs
-
-place-requires : tie.Need-place-requires
-place-requires c κs = search needs
-
-edition-in-requires : tie.Need-edition-in-requires
-edition-in-requires c κs = search needs
-
-has-room-requires : tie.Need-has-room-requires
-has-room-requires c κs = search needs
-
 put-all-requires : tie.Need-put-all-requires
 put-all-requires c κs = room-there (now (c .before .before .before .before .before .before .before .before .before .before .before .before .args .numbers)) (now (c .before .before .before .before .before .before .before .before .before .before .before .before .args .amounts)) (sym (c .before .before .before .has-room .ensures) ∙ c .before .before .if1 .taken)
-
-same-length : tie.Need-same-length
-same-length c = search needs
-
-same-length-2 : tie.Need-same-length-2
-same-length-2 c = search needs
 
 returns : tie.Need-returns
 returns c =
@@ -53,12 +32,6 @@ returns c =
         ),
       ),
     )
-
-same-length-3 : tie.Need-same-length-3
-same-length-3 c = search needs
-
-same-length-4 : tie.Need-same-length-4
-same-length-4 c = search needs
 
 returns-2 : tie.Need-returns-2
 returns-2 c =
@@ -80,4 +53,4 @@ returns-2 c =
 pub trial-read-spec : {M : Type 1} → statement M
 trial-read-spec =
     tie.close
-    (tie.spec read-requires number-requires place-requires edition-in-requires has-room-requires put-all-requires same-length same-length-2 returns same-length-3 same-length-4 returns-2)
+    (tie.spec (λ c κs. search needs) (λ c κs. search needs) (λ c κs. search needs) (λ c κs. search needs) (λ c κs. search needs) put-all-requires (λ c. search needs) (λ c. search needs) returns (λ c. search needs) (λ c. search needs) returns-2)

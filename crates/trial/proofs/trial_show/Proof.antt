@@ -6,15 +6,6 @@ use mathlib.Core.Path.{ap}
 use Rattle.trial.proofs.trial_show.Statement.{statement}
 use Rattle.trial.proofs.trial_show.Tie as tie
 
-show-call-sign-requires : tie.Need-show-call-sign-requires
-show-call-sign-requires c κs = search needs
-
-copy-requires : tie.Need-copy-requires
-copy-requires c κs = search needs
-
-same-length : tie.Need-same-length
-same-length c = search needs
-
 returns : tie.Need-returns
 returns c =
     let sign = c .before .before .before .before .before .show-call-sign .ensures in
@@ -25,4 +16,4 @@ returns-2 c = (ap length (c .before .show-call-sign .ensures), not-shown _ _ _ (
 
 pub trial-show-spec : {M : Type 1} → statement M
 trial-show-spec =
-    tie.close (tie.spec show-call-sign-requires copy-requires same-length returns returns-2)
+    tie.close (tie.spec (λ c κs. search needs) (λ c κs. search needs) (λ c. search needs) returns returns-2)

@@ -10,21 +10,6 @@ use mathlib.Core.Path.{_∙_, ap}
 use Rattle.trial.proofs.trial_write.Statement.{statement}
 use Rattle.trial.proofs.trial_write.Tie as tie
 
-entries-of-requires : tie.Need-entries-of-requires
-entries-of-requires c κs = search needs
-
-write-requires : tie.Need-write-requires
-write-requires c κs = search needs
-
-outcome-place-requires : tie.Need-outcome-place-requires
-outcome-place-requires c κs = search needs
-
-outcome-number-requires : tie.Need-outcome-number-requires
-outcome-number-requires c κs = search needs
-
-same-length : tie.Need-same-length
-same-length c = search needs
-
 returns : tie.Need-returns
 returns c =
     let given = c .before .before .before .before .before .before .entries-of .ensures in
@@ -42,9 +27,9 @@ pub trial-write-spec : {M : Type 1} → statement M
 trial-write-spec =
     tie.close
     (tie.spec
-    entries-of-requires
-    write-requires
-    outcome-place-requires
-    outcome-number-requires
-    same-length
+    (λ c κs. search needs)
+    (λ c κs. search needs)
+    (λ c κs. search needs)
+    (λ c κs. search needs)
+    (λ c. search needs)
     returns)

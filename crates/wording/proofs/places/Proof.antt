@@ -18,21 +18,12 @@ abbrev μ-loop : tie.MeasureT-loop
 loop-holds : tie.Need-loop-holds Inv-loop μ-loop
 loop-holds c = (search needs, count-starts _ (omega arith))
 
-add-k : tie.Need-add-k Inv-loop μ-loop
-add-k c = search needs
-
-loop-less : tie.Need-loop-less Inv-loop μ-loop
-loop-less c = search needs
-
 loop-again : tie.Need-loop-again Inv-loop μ-loop
 loop-again c = let turn = count-turn _ _ (c .before .loop .inv .0) (c .before .loop .inv .1 .0) (omega arith) in (turn .0, (turn .1 .0, turn .1 .1 ∙ c .before .loop .inv .1 .1))
-
-add-result : tie.Need-add-result Inv-loop μ-loop
-add-result c = search needs
 
 returns : tie.Need-returns Inv-loop μ-loop
 returns c = count-end _ _ (c .before .loop .inv .0) (c .before .loop .inv .1 .0) (omega arith) ∙ c .before .loop .inv .1 .1
 
 pub places-spec : {M : Type 1} → statement M
 places-spec =
-    tie.close (tie.spec Inv-loop μ-loop loop-holds add-k loop-less loop-again add-result returns)
+    tie.close (tie.spec Inv-loop μ-loop loop-holds (λ c. search needs) (λ c. search needs) loop-again (λ c. search needs) returns)

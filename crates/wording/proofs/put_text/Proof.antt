@@ -18,20 +18,11 @@ abbrev μ-loop : tie.MeasureT-loop
 loop-holds : tie.Need-loop-holds Inv-loop μ-loop
 loop-holds c = (refl, (search needs, text-starts (c .args .at) (c .args .text .now) (c .args .out .now)))
 
-shared-slice-read-out : tie.Need-shared-slice-read-out Inv-loop μ-loop
-shared-slice-read-out c = search needs
-
 add-out : tie.Need-add-out Inv-loop μ-loop
 add-out c = omega arith
 
 slice-write-out : tie.Need-slice-write-out Inv-loop μ-loop
 slice-write-out c = omega arith
-
-add-i : tie.Need-add-i Inv-loop μ-loop
-add-i c = search needs
-
-loop-less : tie.Need-loop-less Inv-loop μ-loop
-loop-less c = search needs
 
 loop-again : tie.Need-loop-again Inv-loop μ-loop
 loop-again c = (
@@ -55,11 +46,11 @@ put-text-spec =
     Inv-loop
     μ-loop
     loop-holds
-    shared-slice-read-out
+    (λ c. search needs)
     add-out
     slice-write-out
-    add-i
-    loop-less
+    (λ c. search needs)
+    (λ c. search needs)
     loop-again
     add-result
     same-length

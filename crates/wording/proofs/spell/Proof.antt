@@ -18,23 +18,14 @@ abbrev μ-loop : tie.MeasureT-loop
 loop-holds : tie.Need-loop-holds Inv-loop μ-loop
 loop-holds c = (refl, (search needs, refl))
 
-sub-k : tie.Need-sub-k Inv-loop μ-loop
-sub-k c = search needs
-
 add-out : tie.Need-add-out Inv-loop μ-loop
 add-out c = omega arith
 
 cast-out : tie.Need-cast-out Inv-loop μ-loop
 cast-out c = omega arith
 
-add-out-2 : tie.Need-add-out-2 Inv-loop μ-loop
-add-out-2 c = search needs
-
 slice-write-out : tie.Need-slice-write-out Inv-loop μ-loop
 slice-write-out c = omega arith
-
-loop-less : tie.Need-loop-less Inv-loop μ-loop
-loop-less c = search needs
 
 loop-again : tie.Need-loop-again Inv-loop μ-loop
 loop-again c = (
@@ -55,12 +46,12 @@ spell-spec =
     Inv-loop
     μ-loop
     loop-holds
-    sub-k
+    (λ c. search needs)
     add-out
     cast-out
-    add-out-2
+    (λ c. search needs)
     slice-write-out
-    loop-less
+    (λ c. search needs)
     loop-again
     same-length
     returns)

@@ -40,9 +40,6 @@ read-after-requires c κs = λ ed a. let same : c .before .args .edition ≡ ed 
 loop-holds : tie.Need-loop-holds Inv-loop μ-loop
 loop-holds c = (search needs, begin (writes _ _ _) 101)
 
-sub-k : tie.Need-sub-k Inv-loop μ-loop
-sub-k c = search needs
-
 mul-there : tie.Need-mul-there Inv-loop μ-loop
 mul-there c = omega arith
 
@@ -55,19 +52,10 @@ mul-entry c = omega arith
 array-copy-out-entry : tie.Need-array-copy-out-entry Inv-loop μ-loop
 array-copy-out-entry c = omega arith
 
-is-written-requires : tie.Need-is-written-requires Inv-loop μ-loop
-is-written-requires c κs = search needs
-
 returns : tie.Need-returns Inv-loop μ-loop
 returns c =
     let test = c .before in
     sym (turn test .before .loop .inv .1 ∙ off (writes _ _ _) 101 _ (turn test .loop-test .taken) (sym (answers test) ∙ not-true _ (c .if1 .taken)))
-
-add-e : tie.Need-add-e Inv-loop μ-loop
-add-e c = search needs
-
-loop-less : tie.Need-loop-less Inv-loop μ-loop
-loop-less c = search needs
 
 loop-again : tie.Need-loop-again Inv-loop μ-loop
 loop-again c =
@@ -80,4 +68,4 @@ returns-2 c = sym (c .before .loop .inv .1 ∙ end (writes _ _ _) 101 _ (c .loop
 pub first-unwritten-spec : {M : Type 1} → statement M
 first-unwritten-spec =
     tie.close
-    (tie.spec Inv-loop μ-loop read-after-requires loop-holds sub-k mul-there element-copy-out-there mul-entry array-copy-out-entry is-written-requires returns add-e loop-less loop-again returns-2)
+    (tie.spec Inv-loop μ-loop read-after-requires loop-holds (λ c. search needs) mul-there element-copy-out-there mul-entry array-copy-out-entry (λ c κs. search needs) returns (λ c. search needs) (λ c. search needs) loop-again returns-2)

@@ -4,12 +4,6 @@ use borrow.Author.Needs.{needs}
 use Rattle.writing.proofs.is_written.Statement.{statement}
 use Rattle.writing.proofs.is_written.Tie as tie
 
-is-legal-at-requires : tie.Need-is-legal-at-requires
-is-legal-at-requires c κs = search needs
-
-is-same-requires : tie.Need-is-same-requires
-is-same-requires c κs = search needs
-
 returns : tie.Need-returns
 returns c = and-goes-on _ _ (c .before .before .is-legal-at .ensures) _ _ (c .before .if1 .taken) (c .is-same .ensures)
 
@@ -17,4 +11,4 @@ returns-2 : tie.Need-returns-2
 returns-2 c = and-stops _ _ (c .before .is-legal-at .ensures) _ (c .if1 .left)
 
 pub is-written-spec : {M : Type 1} → statement M
-is-written-spec = tie.close (tie.spec is-legal-at-requires is-same-requires returns returns-2)
+is-written-spec = tie.close (tie.spec (λ c κs. search needs) (λ c κs. search needs) returns returns-2)

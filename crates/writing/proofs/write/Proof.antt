@@ -10,21 +10,6 @@ use Rattle.writing.specs.declared.Outcome.{Outcome}
 use Rattle.writing.proofs.write.Statement.{statement}
 use Rattle.writing.proofs.write.Tie as tie
 
-of-number-requires : tie.Need-of-number-requires
-of-number-requires c κs = search needs
-
-enum-known-held : tie.Need-enum-known-held
-enum-known-held c = search needs
-
-write-in-requires : tie.Need-write-in-requires
-write-in-requires c κs = search needs
-
-enum-told : tie.Need-enum-told
-enum-told c = search needs
-
-same-length : tie.Need-same-length
-same-length c = search needs
-
 returns : tie.Need-returns
 unfolding writtenAs afterAs
 returns c = ((c .before .before .write-in .ensures .0) ∙ at-name _ _ (c .before .before .before .before .before .held .given .1) ∙ ap (λ (q : Named). writtenAs q (readings (c .before .before .before .before .before .before .before .before .before .args .entries)) (length (c .before .before .before .before .before .before .before .before .before .args .buffer .now))) (c .before .before .before .before .before .before .before .of-number .ensures), (c .before .before .write-in .ensures .1) ∙ ap (λ (o : Outcome). filledBy (c .before .before .before .before .before .held .given .0 .0) (readings (c .before .before .before .before .before .before .before .before .before .args .entries)) o (c .before .before .before .before .before .before .before .before .before .args .buffer .now)) (c .before .before .write-in .ensures .0) ∙ at-name-after _ _ (c .before .before .before .before .before .held .given .1) ∙ ap (λ (q : Named). afterAs q (readings (c .before .before .before .before .before .before .before .before .before .args .entries)) (c .before .before .before .before .before .before .before .before .before .args .buffer .now)) (c .before .before .before .before .before .before .before .of-number .ensures))
@@ -37,10 +22,10 @@ pub write-spec : {M : Type 1} → statement M
 write-spec =
     tie.close
     (tie.spec
-    of-number-requires
-    enum-known-held
-    write-in-requires
-    enum-told
-    same-length
+    (λ c κs. search needs)
+    (λ c. search needs)
+    (λ c κs. search needs)
+    (λ c. search needs)
+    (λ c. search needs)
     returns
     returns-2)

@@ -7,15 +7,6 @@ use native.Mathlib.Omega.{arith}
 use Rattle.writing.proofs.write_in.Statement.{statement}
 use Rattle.writing.proofs.write_in.Tie as tie
 
-length-requires : tie.Need-length-requires
-length-requires c κs = search needs
-
-slice-aggregate-put-all : tie.Need-slice-aggregate-put-all
-slice-aggregate-put-all c = search needs
-
-put-all-requires : tie.Need-put-all-requires
-put-all-requires c κs = search needs
-
 array-share-prefix-row : tie.Need-array-share-prefix-row
 array-share-prefix-row c = within-row _ _ _ _ (c .before .put-all .ensures) (c .before .put-all .kept .1 .1 .0) (c .before .before .before .length .ensures)
 
@@ -24,9 +15,6 @@ slice-aggregate-first-unwritten c = record-length _ _ _ _ (c .before .before .pu
 
 first-unwritten-requires : tie.Need-first-unwritten-requires
 first-unwritten-requires c κs = sym (record-length _ _ _ _ (c .before .before .put-all .ensures) (c .before .before .put-all .kept .1 .1 .0) (c .before .before .before .before .length .ensures)) ∙ c .before .before .before .before .length .ensures
-
-lead-of-requires : tie.Need-lead-of-requires
-lead-of-requires c κs = search needs
 
 returns : tie.Need-returns
 unfolding filledBy
@@ -37,9 +25,6 @@ array-share-prefix-row-2 c = within-row _ _ _ _ (c .before .before .before .befo
 
 slice-aggregate-first-broken : tie.Need-slice-aggregate-first-broken
 slice-aggregate-first-broken c = record-length _ _ _ _ (c .before .before .before .before .before .put-all .ensures) (c .before .before .before .before .before .put-all .kept .1 .1 .0) (c .before .before .before .before .before .before .before .length .ensures)
-
-first-broken-requires : tie.Need-first-broken-requires
-first-broken-requires c κs = search needs
 
 returns-2 : tie.Need-returns-2
 unfolding filledBy
@@ -58,9 +43,6 @@ slice-aggregate-copy c = record-length _ _ _ _ (c .before .before .before .befor
 copy-requires : tie.Need-copy-requires
 copy-requires c κs = omega (arith, record-length _ _ _ _ (c .before .before .before .before .before .before .before .before .before .before .put-all .ensures) (c .before .before .before .before .before .before .before .before .before .before .put-all .kept .1 .1 .0) (c .before .before .before .before .before .before .before .before .before .before .before .before .length .ensures), (c .before .before .if3 .left))
 
-same-length : tie.Need-same-length
-same-length c = search needs
-
 returns-4 : tie.Need-returns-4
 unfolding filledBy
 returns-4 c = (done _ _ _ _ (is-record _ _ _ _ (c .before .before .before .before .before .before .before .before .before .before .before .before .before .put-all .ensures) (c .before .before .before .before .before .before .before .before .before .before .before .before .before .put-all .kept .1 .1 .0) (c .before .before .before .before .before .before .before .before .before .before .before .before .before .before .before .length .ensures)) _ (c .before .before .before .before .before .before .before .before .before .before .first-unwritten .ensures) (c .before .before .before .before .before .before .before .before .before .if1 .left) _ (c .before .before .before .before .before .before .before .first-broken .ensures) (c .before .before .before .before .before .before .if2 .left) (omega (arith, (c .before .before .before .before .before .if3 .left), (c .before .before .before .before .before .before .before .before .before .before .before .before .before .before .before .length .ensures))), filled-up _ _ _ _ (c .before .before .before .before .before .before .before .before .before .before .before .before .before .put-all .ensures) (c .before .before .before .before .before .before .before .before .before .before .before .before .before .put-all .kept .1 .1 .0) (c .before .before .before .before .before .before .before .before .before .before .before .before .before .before .before .length .ensures) _ _ (c .before .before .copy .ensures .1))
@@ -69,21 +51,21 @@ pub write-in-spec : {M : Type 1} → statement M
 write-in-spec =
     tie.close
     (tie.spec
-    length-requires
-    slice-aggregate-put-all
-    put-all-requires
+    (λ c κs. search needs)
+    (λ c. search needs)
+    (λ c κs. search needs)
     array-share-prefix-row
     slice-aggregate-first-unwritten
     first-unwritten-requires
-    lead-of-requires
+    (λ c κs. search needs)
     returns
     array-share-prefix-row-2
     slice-aggregate-first-broken
-    first-broken-requires
+    (λ c κs. search needs)
     returns-2
     returns-3
     array-share-prefix-row-3
     slice-aggregate-copy
     copy-requires
-    same-length
+    (λ c. search needs)
     returns-4)

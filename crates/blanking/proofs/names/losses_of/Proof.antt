@@ -8,19 +8,10 @@ use Rattle.blanking.proofs.LossLaws.{all-named}
 use Rattle.blanking.proofs.names.losses_of.Statement.{statement}
 use Rattle.blanking.proofs.names.losses_of.Tie as tie
 
-is-leaving-requires : tie.Need-is-leaving-requires
-is-leaving-requires c κs = search needs
-
-is-change-requires : tie.Need-is-change-requires
-is-change-requires c κs = search needs
-
 name-codes-requires : tie.Need-name-codes-requires
 name-codes-requires c κs =
     let start = c .before .before .before in
     omega (arith, start .pre .0, shortest (start .args .from))
-
-is-crossing-requires : tie.Need-is-crossing-requires
-is-crossing-requires c κs = search needs
 
 name-country-requires : tie.Need-name-country-requires
 name-country-requires c κs =
@@ -36,9 +27,6 @@ name-flags-requires : tie.Need-name-flags-requires
 name-flags-requires c κs =
     let start = c .before .before .before .before .before .before .before in
     omega (arith, start .pre .0, shortest (start .args .from))
-
-name-last-requires : tie.Need-name-last-requires
-name-last-requires c κs = search needs
 
 returns : tie.Need-returns
 returns c =
@@ -60,12 +48,12 @@ pub losses-of-spec : {M : Type 1} → statement M
 losses-of-spec =
     tie.close
     (tie.spec
-    is-leaving-requires
-    is-change-requires
+    (λ c κs. search needs)
+    (λ c κs. search needs)
     name-codes-requires
-    is-crossing-requires
+    (λ c κs. search needs)
     name-country-requires
     name-version-requires
     name-flags-requires
-    name-last-requires
+    (λ c κs. search needs)
     returns)

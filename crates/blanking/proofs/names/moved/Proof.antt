@@ -5,14 +5,8 @@ use lib.Pow.{shl-exact}
 use Rattle.blanking.proofs.names.moved.Statement.{statement}
 use Rattle.blanking.proofs.names.moved.Tie as tie
 
-wide-requires : tie.Need-wide-requires
-wide-requires c κs = search needs
-
-shl-result : tie.Need-shl-result
-shl-result c = search needs
-
 returns : tie.Need-returns
 returns c = rw (c .wide .ensures) (shl-exact 8 (c .before .args .by) 64 (omega arith) (omega arith))
 
 pub moved-spec : {M : Type 1} → statement M
-moved-spec = tie.close (tie.spec wide-requires shl-result returns)
+moved-spec = tie.close (tie.spec (λ c κs. search needs) (λ c. search needs) returns)

@@ -21,29 +21,11 @@ loop-holds : tie.Need-loop-holds Inv-loop μ-loop
 unfolding word
 loop-holds c = (omega arith, refl)
 
-add-first-byte : tie.Need-add-first-byte Inv-loop μ-loop
-add-first-byte c = search needs
-
 first-byte-requires : tie.Need-first-byte-requires Inv-loop μ-loop
 first-byte-requires c κs =
     let start = c .before .before .before in
     let e = start .args .e + c .before .loop .k in
     omega (arith, start-next e, start-rises (e + 1) (start .args .e + 8) (omega arith), some-column e (omega arith) (omega arith))
-
-is-in-requires : tie.Need-is-in-requires Inv-loop μ-loop
-is-in-requires c κs = search needs
-
-array-read-bit : tie.Need-array-read-bit Inv-loop μ-loop
-array-read-bit c = search needs
-
-bit-requires : tie.Need-bit-requires Inv-loop μ-loop
-bit-requires c κs = search needs
-
-add-k : tie.Need-add-k Inv-loop μ-loop
-add-k c = search needs
-
-loop-less : tie.Need-loop-less Inv-loop μ-loop
-loop-less c = search needs
 
 loop-again : tie.Need-loop-again Inv-loop μ-loop
 loop-again c =
@@ -67,12 +49,12 @@ name-eight-spec =
     Inv-loop
     μ-loop
     loop-holds
-    add-first-byte
+    (λ c. search needs)
     first-byte-requires
-    is-in-requires
-    array-read-bit
-    bit-requires
-    add-k
-    loop-less
+    (λ c κs. search needs)
+    (λ c. search needs)
+    (λ c κs. search needs)
+    (λ c. search needs)
+    (λ c. search needs)
     loop-again
     returns)

@@ -11,14 +11,8 @@ use Rattle.blanking.proofs.names.name_filled.Tie as tie
 name-eight-requires : tie.Need-name-eight-requires
 name-eight-requires c κs = ((lit≤ tt, lit≤ tt), (omega (arith, start-below 94 (lit≤ tt)), lit≤ tt))
 
-moved-requires : tie.Need-moved-requires
-moved-requires c κs = search needs
-
 name-eight-requires-2 : tie.Need-name-eight-requires-2
 name-eight-requires-2 c κs = ((lit≤ tt, lit≤ tt), (omega (arith, start-below 102 (lit≤ tt)), lit≤ tt))
-
-moved-requires-2 : tie.Need-moved-requires-2
-moved-requires-2 c κs = search needs
 
 returns : tie.Need-returns
 unfolding laterLost
@@ -27,4 +21,4 @@ returns c =
     joined _ _ 65 37 _ _ (eight-word line 33 126 21 (omega arith) _ _ (c .before .before .before .name-eight .ensures) (c .before .before .moved .ensures)) (eight-word line 33 126 29 (omega arith) _ _ (c .before .name-eight2 .ensures) (c .moved2 .ensures))
 
 pub name-filled-spec : {M : Type 1} → statement M
-name-filled-spec = tie.close (tie.spec name-eight-requires moved-requires name-eight-requires-2 moved-requires-2 returns)
+name-filled-spec = tie.close (tie.spec name-eight-requires (λ c κs. search needs) name-eight-requires-2 (λ c κs. search needs) returns)

@@ -16,20 +16,11 @@ returns c = none-named flagsLost (λ at b. refl) (c .before .before .args .back)
 name-eight-requires : tie.Need-name-eight-requires
 name-eight-requires c κs = ((lit≤ tt, lit≤ tt), (omega (arith, start-shared 74 (lit≤ tt)), lit≤ tt))
 
-moved-requires : tie.Need-moved-requires
-moved-requires c κs = search needs
-
 name-eight-requires-2 : tie.Need-name-eight-requires-2
 name-eight-requires-2 c κs = ((lit≤ tt, lit≤ tt), (omega (arith, start-shared 82 (lit≤ tt)), lit≤ tt))
 
-moved-requires-2 : tie.Need-moved-requires-2
-moved-requires-2 c κs = search needs
-
 name-eight-requires-3 : tie.Need-name-eight-requires-3
 name-eight-requires-3 c κs = ((lit≤ tt, lit≤ tt), (omega (arith, start-shared 86 (lit≤ tt)), lit≤ tt))
-
-moved-requires-3 : tie.Need-moved-requires-3
-moved-requires-3 c κs = search needs
 
 returns-2 : tie.Need-returns-2
 unfolding flagsLost
@@ -45,4 +36,4 @@ returns-2 c =
     (eight-word line 54 55 13 (omega arith) _ _ (c .before .name-eight3 .ensures) (c .moved3 .ensures)))
 
 pub name-flags-spec : {M : Type 1} → statement M
-name-flags-spec = tie.close (tie.spec returns name-eight-requires moved-requires name-eight-requires-2 moved-requires-2 name-eight-requires-3 moved-requires-3 returns-2)
+name-flags-spec = tie.close (tie.spec returns name-eight-requires (λ c κs. search needs) name-eight-requires-2 (λ c κs. search needs) name-eight-requires-3 (λ c κs. search needs) returns-2)

@@ -8,16 +8,10 @@ use Rattle.blanking.proofs.LossLaws.{last-none, in-none, in-some}
 use Rattle.blanking.proofs.names.name_last.Statement.{statement}
 use Rattle.blanking.proofs.names.name_last.Tie as tie
 
-is-first-requires : tie.Need-is-first-requires
-is-first-requires c κs = search needs
-
 returns : tie.Need-returns
 returns c =
     let start = c .before .before .before in
     last-none (start .args .line .now) _ _ (start .pre ∙ first-length (start .args .from) (sym (c .before .is-first .ensures) ∙ c .if1 .taken))
-
-is-first-requires-2 : tie.Need-is-first-requires-2
-is-first-requires-2 c κs = search needs
 
 name-filled-requires : tie.Need-name-filled-requires
 name-filled-requires c κs =
@@ -29,9 +23,6 @@ returns-2 : tie.Need-returns-2
 returns-2 c =
     let start = c .before .before .before .before .before .before in
     in-none (start .args .to) _ (sym (c .before .before .is-first2 .ensures) ∙ c .before .if2 .taken) (start .args .line .now) _ (c .name-filled .ensures)
-
-is-leaving-requires : tie.Need-is-leaving-requires
-is-leaving-requires c κs = search needs
 
 name-later-requires : tie.Need-name-later-requires
 name-later-requires c κs =
@@ -49,11 +40,11 @@ pub name-last-spec : {M : Type 1} → statement M
 name-last-spec =
     tie.close
     (tie.spec
-    is-first-requires
+    (λ c κs. search needs)
     returns
-    is-first-requires-2
+    (λ c κs. search needs)
     name-filled-requires
     returns-2
-    is-leaving-requires
+    (λ c κs. search needs)
     name-later-requires
     returns-3)

@@ -22,9 +22,6 @@ name-one-requires c κs = (omega (arith, begins Three 86 (lit≤ tt) (lit≤ tt)
 name-eight-requires : tie.Need-name-eight-requires
 name-eight-requires c κs = ((lit≤ tt, lit≤ tt), (omega (arith, start-below 102 (lit≤ tt)), lit≤ tt))
 
-moved-requires : tie.Need-moved-requires
-moved-requires c κs = search needs
-
 returns-2 : tie.Need-returns-2
 unfolding laterLost
 returns-2 c =
@@ -35,4 +32,4 @@ returns-2 c =
     (joined _ _ 65 37 _ _ (one-word line 54 54 65 21 37 (omega arith) _ (c .before .before .name-one .ensures)) (eight-word line 54 55 29 (omega arith) _ _ (c .before .name-eight .ensures) (c .moved .ensures)))
 
 pub name-later-spec : {M : Type 1} → statement M
-name-later-spec = tie.close (tie.spec returns name-one-requires name-eight-requires moved-requires returns-2)
+name-later-spec = tie.close (tie.spec returns name-one-requires name-eight-requires (λ c κs. search needs) returns-2)

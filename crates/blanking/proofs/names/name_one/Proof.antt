@@ -5,12 +5,6 @@ use Rattle.text.specs.Bytes.{between}
 use Rattle.blanking.proofs.names.name_one.Statement.{statement}
 use Rattle.blanking.proofs.names.name_one.Tie as tie
 
-first-byte-requires : tie.Need-first-byte-requires
-first-byte-requires c κs = search needs
-
-is-in-requires : tie.Need-is-in-requires
-is-in-requires c κs = search needs
-
 returns : tie.Need-returns
 returns c =
     let args = c .before .before .before .before .args in
@@ -22,4 +16,4 @@ returns-2 c =
     rw (← (ap (between (args .low) (args .high)) (c .before .before .first-byte .ensures)), ← (c .before .is-in .ensures), c .if1 .left)
 
 pub name-one-spec : {M : Type 1} → statement M
-name-one-spec = tie.close (tie.spec first-byte-requires is-in-requires returns returns-2)
+name-one-spec = tie.close (tie.spec (λ c κs. search needs) (λ c κs. search needs) returns returns-2)

@@ -6,24 +6,6 @@ use borrow.Author.Needs.{needs}
 use Rattle.columns.proofs.four.own.Statement.{statement}
 use Rattle.columns.proofs.four.own.Tie as tie
 
-later-date-requires : tie.Need-later-date-requires
-later-date-requires c κs = search needs
-
-ship-requires : tie.Need-ship-requires
-ship-requires c κs = search needs
-
-ice-requires : tie.Need-ice-requires
-ice-requires c κs = search needs
-
-flags-requires : tie.Need-flags-requires
-flags-requires c κs = search needs
-
-course-requires : tie.Need-course-requires
-course-requires c κs = search needs
-
-last-requires : tie.Need-last-requires
-last-requires c κs = search needs
-
 returns : tie.Need-returns
 returns c = λ z.
     let a = c .before .before .before in
@@ -35,10 +17,10 @@ pub own-spec : {M : Type 1} → statement M
 own-spec =
     tie.close
     (tie.spec
-    later-date-requires
-    ship-requires
-    ice-requires
-    flags-requires
-    course-requires
-    last-requires
+    (λ c κs. search needs)
+    (λ c κs. search needs)
+    (λ c κs. search needs)
+    (λ c κs. search needs)
+    (λ c κs. search needs)
+    (λ c κs. search needs)
     returns)

@@ -6,21 +6,6 @@ use borrow.Author.Needs.{needs}
 use Rattle.columns.proofs.one.own.Statement.{statement}
 use Rattle.columns.proofs.one.own.Tie as tie
 
-date-requires : tie.Need-date-requires
-date-requires c κs = search needs
-
-ship-requires : tie.Need-ship-requires
-ship-requires c κs = search needs
-
-ice-requires : tie.Need-ice-requires
-ice-requires c κs = search needs
-
-early-flags-requires : tie.Need-early-flags-requires
-early-flags-requires c κs = search needs
-
-last-requires : tie.Need-last-requires
-last-requires c κs = search needs
-
 returns : tie.Need-returns
 returns c = λ z.
     let a = c .before .before in
@@ -30,4 +15,4 @@ returns c = λ z.
 pub own-spec : {M : Type 1} → statement M
 own-spec =
     tie.close
-    (tie.spec date-requires ship-requires ice-requires early-flags-requires last-requires returns)
+    (tie.spec (λ c κs. search needs) (λ c κs. search needs) (λ c κs. search needs) (λ c κs. search needs) (λ c κs. search needs) returns)

@@ -9,18 +9,6 @@ use borrow.Author.Needs.{needs}
 use Rattle.columns.proofs.three.last.Statement.{statement}
 use Rattle.columns.proofs.three.last.Tie as tie
 
-part-requires : tie.Need-part-requires
-part-requires c κs = search needs
-
-sub-outside : tie.Need-sub-outside
-sub-outside c = search needs
-
-shared-slice-read-outside : tie.Need-shared-slice-read-outside
-shared-slice-read-outside c = search needs
-
-outside-requires : tie.Need-outside-requires
-outside-requires c κs = search needs
-
 returns : tie.Need-returns
 unfolding cells cellsFrom cellOf bonds bondsFrom inside after page cellAt bondAt
 returns c =
@@ -28,4 +16,4 @@ returns c =
     to-last Three _ 142 158 (p .result) (c .outside .result) (omega arith) (λ z. p .ensures z Three refl) (c .outside .ensures (omega arith) (omega arith)) refl
 
 pub last-spec : {M : Type 1} → statement M
-last-spec = tie.close (tie.spec part-requires sub-outside shared-slice-read-outside outside-requires returns)
+last-spec = tie.close (tie.spec (λ c κs. search needs) (λ c. search needs) (λ c. search needs) (λ c κs. search needs) returns)

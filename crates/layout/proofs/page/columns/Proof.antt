@@ -11,38 +11,11 @@ use Rattle.layout.proofs.page.columns.Tie as tie
 with-length : (xs : List ℕ) (start width : ℕ) {ts : List ℕ} → ts ≡ take width (drop start xs) → (ts ≡ take width (drop start xs)) × (length ts ≤ width)
 with-length xs start width {ts} e = (e, at-most xs ts start width e)
 
-slice-aggregate-result : tie.Need-slice-aggregate-result
-slice-aggregate-result c = search needs
-
 returns : tie.Need-returns
 returns c = with-length (c .before .before .args .line .now) (c .before .before .args .start) (c .before .before .args .width) (past (c .before .before .args .line .now) (c .before .before .args .start) (c .before .before .args .width) (c .before .if1 .taken))
 
-sub-if2 : tie.Need-sub-if2
-sub-if2 c = search needs
-
-sub-result : tie.Need-sub-result
-sub-result c = search needs
-
-part-result-start : tie.Need-part-result-start
-part-result-start c = search needs
-
-part-result-end : tie.Need-part-result-end
-part-result-end c = search needs
-
 returns-2 : tie.Need-returns-2
 returns-2 c = with-length (c .before .before .before .args .line .now) (c .before .before .before .args .start) (c .before .before .before .args .width) (to-the-end (c .before .before .before .args .line .now) (c .before .before .before .args .start) (c .before .before .before .args .width) (c .before .if2 .taken))
-
-add-result : tie.Need-add-result
-add-result c = search needs
-
-sub-result-2 : tie.Need-sub-result-2
-sub-result-2 c = search needs
-
-part-result-start-2 : tie.Need-part-result-start-2
-part-result-start-2 c = search needs
-
-part-result-end-2 : tie.Need-part-result-end-2
-part-result-end-2 c = search needs
 
 returns-3 : tie.Need-returns-3
 returns-3 c = with-length (c .before .before .before .args .line .now) (c .before .before .before .args .start) (c .before .before .before .args .width) (inside (c .before .before .before .args .line .now) (c .before .before .before .args .start) (c .before .before .before .args .width))
@@ -51,15 +24,15 @@ pub columns-spec : {M : Type 1} → statement M
 columns-spec =
     tie.close
     (tie.spec
-    slice-aggregate-result
+    (λ c. search needs)
     returns
-    sub-if2
-    sub-result
-    part-result-start
-    part-result-end
+    (λ c. search needs)
+    (λ c. search needs)
+    (λ c. search needs)
+    (λ c. search needs)
     returns-2
-    add-result
-    sub-result-2
-    part-result-start-2
-    part-result-end-2
+    (λ c. search needs)
+    (λ c. search needs)
+    (λ c. search needs)
+    (λ c. search needs)
     returns-3)

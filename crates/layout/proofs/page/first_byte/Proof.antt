@@ -6,14 +6,8 @@ use mathlib.Core.Path.{ap}
 use Rattle.layout.proofs.page.first_byte.Statement.{statement}
 use Rattle.layout.proofs.page.first_byte.Tie as tie
 
-start-of-requires : tie.Need-start-of-requires
-start-of-requires c κs = search needs
-
-shared-slice-read-result : tie.Need-shared-slice-read-result
-shared-slice-read-result c = search needs
-
 returns : tie.Need-returns
 returns c = ap (λ (i : ℕ). getD (c .before .before .before .args .line .now) i 0) (c .before .start-of .ensures)
 
 pub first-byte-spec : {M : Type 1} → statement M
-first-byte-spec = tie.close (tie.spec start-of-requires shared-slice-read-result returns)
+first-byte-spec = tie.close (tie.spec (λ c κs. search needs) (λ c. search needs) returns)

@@ -51,24 +51,12 @@ whole : (c : tie.At-loop Inv-loop μ-loop) →
     firstOf (lastOf (call c .args .edition)) (legal (call c .args .edition) (call c .args .line .now))
 whole c = sym (c .loop .inv .1 .1) ∙ ap (λ (n : ℕ). firstOf n (legal (call c .args .edition) (call c .args .line .now))) (c .before .last .ensures)
 
-last-requires : tie.Need-last-requires Inv-loop μ-loop
-last-requires c κs = search needs
-
 loop-holds : tie.Need-loop-holds Inv-loop μ-loop
 unfolding startOf columns
 loop-holds c = (search needs, (refl, begin (legal _ _) _))
 
-width-of-requires : tie.Need-width-of-requires Inv-loop μ-loop
-width-of-requires c κs = search needs
-
 add-end : tie.Need-add-end Inv-loop μ-loop
 add-end c = omega (arith, ends c)
-
-sub-is-legal : tie.Need-sub-is-legal Inv-loop μ-loop
-sub-is-legal c = search needs
-
-part-is-legal-start : tie.Need-part-is-legal-start Inv-loop μ-loop
-part-is-legal-start c = search needs
 
 part-is-legal-end : tie.Need-part-is-legal-end Inv-loop μ-loop
 part-is-legal-end c = ends c
@@ -83,9 +71,6 @@ returns c =
 
 add-e : tie.Need-add-e Inv-loop μ-loop
 add-e c = omega (arith, below (tested (c .before)))
-
-loop-less : tie.Need-loop-less Inv-loop μ-loop
-loop-less c = search needs
 
 loop-again : tie.Need-loop-again Inv-loop μ-loop
 loop-again c =
@@ -106,16 +91,16 @@ first-illegal-spec =
     (tie.spec
     Inv-loop
     μ-loop
-    last-requires
+    (λ c κs. search needs)
     loop-holds
-    width-of-requires
+    (λ c κs. search needs)
     add-end
-    sub-is-legal
-    part-is-legal-start
+    (λ c. search needs)
+    (λ c. search needs)
     part-is-legal-end
     is-legal-requires
     returns
     add-e
-    loop-less
+    (λ c. search needs)
     loop-again
     returns-2)

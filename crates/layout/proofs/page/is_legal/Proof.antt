@@ -7,15 +7,6 @@ use mathlib.Core.Path.{_∙_, ap}
 use Rattle.layout.proofs.page.is_legal.Statement.{statement}
 use Rattle.layout.proofs.page.is_legal.Tie as tie
 
-is-missing-requires : tie.Need-is-missing-requires
-is-missing-requires c κs = search needs
-
-texts-in-requires : tie.Need-texts-in-requires
-texts-in-requires c κs = search needs
-
-is-one-requires : tie.Need-is-one-requires
-is-one-requires c κs = search needs
-
 returns : tie.Need-returns
 returns c = or-holds _ _ (c .before .is-missing .ensures) _ (c .if1 .taken)
 
@@ -26,4 +17,4 @@ returns-2 c =
     (c .is-one .ensures ∙ ap (λ (s : Texts). allows s (tested .before .before .before .args .text .now)) (c .before .texts-in .ensures))
 
 pub is-legal-spec : {M : Type 1} → statement M
-is-legal-spec = tie.close (tie.spec is-missing-requires texts-in-requires is-one-requires returns returns-2)
+is-legal-spec = tie.close (tie.spec (λ c κs. search needs) (λ c κs. search needs) (λ c κs. search needs) returns returns-2)

@@ -4,16 +4,10 @@ use borrow.Author.Needs.{needs}
 use Rattle.layout.proofs.page.is_legal_at.Statement.{statement}
 use Rattle.layout.proofs.page.is_legal_at.Tie as tie
 
-text-of-requires : tie.Need-text-of-requires
-text-of-requires c κs = search needs
-
-is-legal-requires : tie.Need-is-legal-requires
-is-legal-requires c κs = search needs
-
 returns : tie.Need-returns
 returns c = legal-of _ _ _ _ (c .before .text-of .ensures .0) _ (c .is-legal .ensures)
 
 pub is-legal-at-spec : {M : Type 1} → statement M
 is-legal-at-spec =
     tie.close
-    (tie.spec text-of-requires is-legal-requires returns)
+    (tie.spec (λ c κs. search needs) (λ c κs. search needs) returns)

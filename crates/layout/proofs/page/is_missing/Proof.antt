@@ -4,12 +4,6 @@ use borrow.Author.Needs.{needs}
 use Rattle.layout.proofs.page.is_missing.Statement.{statement}
 use Rattle.layout.proofs.page.is_missing.Tie as tie
 
-may-be-blank-requires : tie.Need-may-be-blank-requires
-may-be-blank-requires c κs = search needs
-
-is-blank-requires : tie.Need-is-blank-requires
-is-blank-requires c κs = search needs
-
 returns : tie.Need-returns
 returns c = and-goes-on _ _ (c .before .before .may-be-blank .ensures) _ _ (c .before .if1 .taken) (c .is-blank .ensures)
 
@@ -17,4 +11,4 @@ returns-2 : tie.Need-returns-2
 returns-2 c = and-stops _ _ (c .before .may-be-blank .ensures) _ (c .if1 .left)
 
 pub is-missing-spec : {M : Type 1} → statement M
-is-missing-spec = tie.close (tie.spec may-be-blank-requires is-blank-requires returns returns-2)
+is-missing-spec = tie.close (tie.spec (λ c κs. search needs) (λ c κs. search needs) returns returns-2)

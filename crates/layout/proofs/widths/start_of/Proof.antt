@@ -16,12 +16,6 @@ sum c = let e = c .before .before .before .args .e in rw (c .before .columns-bef
 returns : tie.Need-returns
 returns c = start-past _ (c .if1 .taken)
 
-columns-before-requires : tie.Need-columns-before-requires
-columns-before-requires c κs = search needs
-
-up-to-requires : tie.Need-up-to-requires
-up-to-requires c κs = search needs
-
 add-result : tie.Need-add-result
 add-result c = omega (arith, sum c, start-below (c .before .before .before .args .e) (omega arith))
 
@@ -29,4 +23,4 @@ returns-2 : tie.Need-returns-2
 returns-2 c = sum c
 
 pub start-of-spec : {M : Type 1} → statement M
-start-of-spec = tie.close (tie.spec returns columns-before-requires up-to-requires add-result returns-2)
+start-of-spec = tie.close (tie.spec returns (λ c κs. search needs) (λ c κs. search needs) add-result returns-2)

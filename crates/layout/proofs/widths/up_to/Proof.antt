@@ -5,20 +5,8 @@ use borrow.Author.Needs.{needs}
 use Rattle.layout.proofs.widths.up_to.Statement.{statement}
 use Rattle.layout.proofs.widths.up_to.Tie as tie
 
-widths-in-requires : tie.Need-widths-in-requires
-widths-in-requires c κs = search needs
-
-sub-result : tie.Need-sub-result
-sub-result c = search needs
-
-mul-result : tie.Need-mul-result
-mul-result c = search needs
-
-shr-result : tie.Need-shr-result
-shr-result c = search needs
-
 returns : tie.Need-returns
 returns c = ap (λ (w : ℕ). w / 2 ^ (8 * (7 - c .before .args .e % 8))) (c .widths-in .ensures)
 
 pub up-to-spec : {M : Type 1} → statement M
-up-to-spec = tie.close (tie.spec widths-in-requires sub-result mul-result shr-result returns)
+up-to-spec = tie.close (tie.spec (λ c κs. search needs) (λ c. search needs) (λ c. search needs) (λ c. search needs) returns)

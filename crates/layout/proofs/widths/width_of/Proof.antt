@@ -11,11 +11,8 @@ use Rattle.layout.proofs.widths.width_of.Tie as tie
 returns : tie.Need-returns
 returns c = width-past _ (c .if1 .taken)
 
-up-to-requires : tie.Need-up-to-requires
-up-to-requires c κs = search needs
-
 returns-2 : tie.Need-returns-2
 returns-2 c = ap (λ (w : ℕ). w % 256) (c .up-to .ensures) ∙ row-width _ (omega arith)
 
 pub width-of-spec : {M : Type 1} → statement M
-width-of-spec = tie.close (tie.spec returns up-to-requires returns-2)
+width-of-spec = tie.close (tie.spec returns (λ c κs. search needs) returns-2)

@@ -15,8 +15,5 @@ cast-result c =
     let s = c .before .before .args .self in
     omega (arith, ones-le 64 (s .low) (search needs), ones-le 64 (s .high) (search needs))
 
-returns : tie.Need-returns
-returns c = search needs
-
 pub count-spec : {M : Type 1} → statement M
-count-spec = tie.close (tie.spec add-result cast-result returns)
+count-spec = tie.close (tie.spec add-result cast-result (λ c. search needs))

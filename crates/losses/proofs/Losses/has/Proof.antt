@@ -9,19 +9,10 @@ use Rattle.losses.proofs.Losses.has.Tie as tie
 returns : tie.Need-returns
 returns c = sym (has-zero _ _ (c .if1 .taken))
 
-shr-result : tie.Need-shr-result
-shr-result c = search needs
-
 returns-2 : tie.Need-returns-2
 returns-2 c =
     let a = c .before .before .before .args in
     bit-tested (a .self .low) (a .e - 1) ∙ sym (has-low (a .self) (a .e) (c .before .before .if1 .left) (c .before .if2 .taken))
-
-sub-result : tie.Need-sub-result
-sub-result c = search needs
-
-shr-result-2 : tie.Need-shr-result-2
-shr-result-2 c = search needs
 
 returns-3 : tie.Need-returns-3
 returns-3 c =
@@ -32,4 +23,4 @@ returns-4 : tie.Need-returns-4
 returns-4 c = sym (has-past _ _ (c .if3 .left))
 
 pub has-spec : {M : Type 1} → statement M
-has-spec = tie.close (tie.spec returns shr-result returns-2 sub-result shr-result-2 returns-3 returns-4)
+has-spec = tie.close (tie.spec returns (λ c. search needs) returns-2 (λ c. search needs) (λ c. search needs) returns-3 returns-4)

@@ -9,19 +9,10 @@ use Rattle.losses.proofs.Losses.with.Tie as tie
 returns : tie.Need-returns
 returns c = sym (with-zero _ _ (c .if1 .taken))
 
-shl-mask : tie.Need-shl-mask
-shl-mask c = search needs
-
 returns-2 : tie.Need-returns-2
 returns-2 c =
     let a = c .before .before .before .args in
     low-masked (a .self) (a .e - 1) (search needs) ∙ sym (with-low (a .self) (a .e) (c .before .before .if1 .left) (c .before .if2 .taken))
-
-sub-mask : tie.Need-sub-mask
-sub-mask c = search needs
-
-shl-mask-2 : tie.Need-shl-mask-2
-shl-mask-2 c = search needs
 
 returns-3 : tie.Need-returns-3
 returns-3 c =
@@ -32,4 +23,4 @@ returns-4 : tie.Need-returns-4
 returns-4 c = sym (with-past _ _ (c .if3 .left))
 
 pub with-spec : {M : Type 1} → statement M
-with-spec = tie.close (tie.spec returns shl-mask returns-2 sub-mask shl-mask-2 returns-3 returns-4)
+with-spec = tie.close (tie.spec returns (λ c. search needs) returns-2 (λ c. search needs) (λ c. search needs) returns-3 returns-4)

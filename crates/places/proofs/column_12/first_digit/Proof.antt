@@ -26,12 +26,6 @@ is-suited-requires c κs = rw (c .digit-of .ensures) (omega (arith, c .before .l
 returns : tie.Need-returns Inv-loop μ-loop
 returns c = taken _ _ _ _ _ _ _ _ (c .before .before .digit-of .ensures) (c .before .is-suited .ensures) (c .before .before .before .before .loop .inv .1 .1) (c .before .before .before .before .loop .inv .1 .0) (c .if1 .taken)
 
-add-b : tie.Need-add-b Inv-loop μ-loop
-add-b c = search needs
-
-loop-less : tie.Need-loop-less Inv-loop μ-loop
-loop-less c = search needs
-
 loop-again : tie.Need-loop-again Inv-loop μ-loop
 loop-again c =
     let test = c .before .before .before in
@@ -60,7 +54,7 @@ first-digit-spec =
     digit-of-requires
     is-suited-requires
     returns
-    add-b
-    loop-less
+    (λ c. search needs)
+    (λ c. search needs)
     loop-again
     returns-2)

@@ -4,17 +4,8 @@ use Rattle.places.proofs.DigitLaws.{crossing}
 use Rattle.places.proofs.column_12.is_crossing.Statement.{statement}
 use Rattle.places.proofs.column_12.is_crossing.Tie as tie
 
-is-first-requires : tie.Need-is-first-requires
-is-first-requires c κs = search needs
-
-is-first-requires-2 : tie.Need-is-first-requires-2
-is-first-requires-2 c κs = search needs
-
-same-requires : tie.Need-same-requires
-same-requires c κs = search needs
-
 returns : tie.Need-returns
 returns c = crossing (c .before .before .before .args .from) (c .before .before .before .args .to) _ _ _ (c .before .before .is-first .ensures) (c .before .is-first2 .ensures) (c .same .ensures)
 
 pub is-crossing-spec : {M : Type 1} → statement M
-is-crossing-spec = tie.close (tie.spec is-first-requires is-first-requires-2 same-requires returns)
+is-crossing-spec = tie.close (tie.spec (λ c κs. search needs) (λ c κs. search needs) (λ c κs. search needs) returns)

@@ -15,9 +15,6 @@ latitudes s =
     let args = first .before .args in
     s .is-same .ensures ∙ same-back (args .a .latitude) (args .b .latitude) (record { sfits = first .struct-told .given .0 .1 }) (record { sfits = second .struct-told2 .given .0 .1 })
 
-is-same-requires : tie.Need-is-same-requires
-is-same-requires c κs = search needs
-
 returns : tie.Need-returns
 returns c = let test = c .before .before in and-goes-on _ _ (latitudes (test .before)) _ _ (test .if1 .taken) refl
 
@@ -25,4 +22,4 @@ returns-2 : tie.Need-returns-2
 returns-2 c = and-stops _ _ (latitudes (c .before)) _ (c .if1 .left)
 
 pub is-one-place-spec : {M : Type 1} → statement M
-is-one-place-spec = tie.close (tie.spec is-same-requires returns returns-2)
+is-one-place-spec = tie.close (tie.spec (λ c κs. search needs) returns returns-2)

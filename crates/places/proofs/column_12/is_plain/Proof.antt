@@ -13,8 +13,5 @@ returns-2 c = λ e. absurd (false≢true e)
 returns-3 : tie.Need-returns-3
 returns-3 c = λ e. absurd (false≢true e)
 
-returns-4 : tie.Need-returns-4
-returns-4 c = search needs
-
 pub is-plain-spec : {M : Type 1} → statement M
-is-plain-spec = tie.close (tie.spec returns returns-2 returns-3 returns-4)
+is-plain-spec = tie.close (tie.spec returns returns-2 returns-3 (λ c. search needs))

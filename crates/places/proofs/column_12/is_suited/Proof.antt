@@ -5,17 +5,8 @@ use borrow.Author.Tests.{not-true, not-false}
 use Rattle.places.proofs.column_12.is_suited.Statement.{statement}
 use Rattle.places.proofs.column_12.is_suited.Tie as tie
 
-may-stand-requires : tie.Need-may-stand-requires
-may-stand-requires c κs = search needs
-
 returns : tie.Need-returns
 returns c = not-standing _ _ _ _ _ _ _ (c .before .may-stand .ensures) (not-true _ (c .if1 .taken))
-
-is-same-place-requires : tie.Need-is-same-place-requires
-is-same-place-requires c κs = search needs
-
-keeps-tie-requires : tie.Need-keeps-tie-requires
-keeps-tie-requires c κs = search needs
 
 returns-2 : tie.Need-returns-2
 returns-2 c = same-and _ _ _ _ _ _ _ (c .before .before .before .before .may-stand .ensures) (not-false _ (c .before .before .before .if1 .left)) _ (c .before .before .is-same-place .ensures) (c .before .if2 .taken) _ (c .keeps-tie .ensures)
@@ -27,9 +18,9 @@ pub is-suited-spec : {M : Type 1} → statement M
 is-suited-spec =
     tie.close
     (tie.spec
-    may-stand-requires
+    (λ c κs. search needs)
     returns
-    is-same-place-requires
-    keeps-tie-requires
+    (λ c κs. search needs)
+    (λ c κs. search needs)
     returns-2
     returns-3)

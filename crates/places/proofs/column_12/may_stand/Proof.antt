@@ -6,24 +6,6 @@ use Rattle.places.proofs.DigitLaws.{digit-stands, stands-at}
 use Rattle.places.proofs.column_12.may_stand.Statement.{statement}
 use Rattle.places.proofs.column_12.may_stand.Tie as tie
 
-enum-told : tie.Need-enum-told
-enum-told c = search needs
-
-is-either-requires : tie.Need-is-either-requires
-is-either-requires c κs = search needs
-
-enum-told-2 : tie.Need-enum-told-2
-enum-told-2 c = search needs
-
-is-among-requires : tie.Need-is-among-requires
-is-among-requires c κs = search needs
-
-enum-told-3 : tie.Need-enum-told-3
-enum-told-3 c = search needs
-
-is-among-requires-2 : tie.Need-is-among-requires-2
-is-among-requires-2 c κs = search needs
-
 returns : tie.Need-returns
 returns c = c .is-either .ensures ∙ sym (digit-stands One _ (c .before .before .before .pre)) ∙ stands-at _ (c .before .enum-told .given .1)
 
@@ -36,4 +18,4 @@ returns-3 c = c .is-among2 .ensures ∙ sym (digit-stands Four _ (c .before .bef
 pub may-stand-spec : {M : Type 1} → statement M
 may-stand-spec =
     tie.close
-    (tie.spec enum-told is-either-requires enum-told-2 is-among-requires enum-told-3 is-among-requires-2 returns returns-2 returns-3)
+    (tie.spec (λ c. search needs) (λ c κs. search needs) (λ c. search needs) (λ c κs. search needs) (λ c. search needs) (λ c κs. search needs) returns returns-2 returns-3)

@@ -3,17 +3,11 @@ use borrow.Author.Needs.{needs}
 use Rattle.places.proofs.column_12.octant_of.Statement.{statement}
 use Rattle.places.proofs.column_12.octant_of.Tie as tie
 
-far-octant-requires : tie.Need-far-octant-requires
-far-octant-requires c κs = search needs
-
 returns : tie.Need-returns
 returns c = rw (c .before .if1 .taken) (c .far-octant .ensures)
-
-near-octant-requires : tie.Need-near-octant-requires
-near-octant-requires c κs = search needs
 
 returns-2 : tie.Need-returns-2
 returns-2 c = rw (c .before .if1 .left) (c .near-octant .ensures)
 
 pub octant-of-spec : {M : Type 1} → statement M
-octant-of-spec = tie.close (tie.spec far-octant-requires returns near-octant-requires returns-2)
+octant-of-spec = tie.close (tie.spec (λ c κs. search needs) returns (λ c κs. search needs) returns-2)

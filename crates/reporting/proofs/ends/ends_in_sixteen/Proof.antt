@@ -23,15 +23,6 @@ add-ends-line c = omega arith
 shared-slice-read-ends-line : tie.Need-shared-slice-read-ends-line Inv-loop μ-loop
 shared-slice-read-ends-line c = omega arith
 
-ends-line-requires : tie.Need-ends-line-requires Inv-loop μ-loop
-ends-line-requires c κs = search needs
-
-add-k : tie.Need-add-k Inv-loop μ-loop
-add-k c = search needs
-
-loop-less : tie.Need-loop-less Inv-loop μ-loop
-loop-less c = search needs
-
 loop-again : tie.Need-loop-again Inv-loop μ-loop
 loop-again c =
     let l = c .before .before .before .loop in
@@ -49,8 +40,8 @@ ends-in-sixteen-spec =
     loop-holds
     add-ends-line
     shared-slice-read-ends-line
-    ends-line-requires
-    add-k
-    loop-less
+    (λ c κs. search needs)
+    (λ c. search needs)
+    (λ c. search needs)
     loop-again
     returns)

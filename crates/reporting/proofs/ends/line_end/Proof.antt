@@ -18,9 +18,6 @@ abbrev μ-loop : tie.MeasureT-loop
 loop-holds : tie.Need-loop-holds Inv-loop μ-loop
 loop-holds c = (search needs, refl)
 
-sub-loop : tie.Need-sub-loop Inv-loop μ-loop
-sub-loop c = search needs
-
 ends-in-sixteen-requires : tie.Need-ends-in-sixteen-requires Inv-loop μ-loop
 ends-in-sixteen-requires c κs = omega arith
 
@@ -48,7 +45,7 @@ line-end-spec =
     Inv-loop
     μ-loop
     loop-holds
-    sub-loop
+    (λ c. search needs)
     ends-in-sixteen-requires
     add-at
     loop-less

@@ -31,6 +31,10 @@ by-number One = refl
 by-number Three = refl
 by-number Four = refl
 
+-- two editions that go by one number are one
+pub same-number : (a b : Edition) → editionNumber a ≡ editionNumber b → a ≡ b
+same-number a b e = let known : Known a ≡ Known b = sym (by-number a) ∙ ap asked e ∙ by-number b in cc
+
 -- the longest record has 159 columns, the shortest 131
 pub most : (ed : Edition) → lengthOf ed ≤ 159
 most One = lit≤ tt

@@ -11,11 +11,12 @@ use layout::page;
 use reading::Entry;
 use reading::Reading;
 ghost use mathlib.Core.Path.{_≡_};
-ghost use mathlib.Core.Bool.{_&&_};
+ghost use mathlib.Core.Bool.{true, _&&_};
 ghost use lib.ListN.{length};
 ghost use Rattle.text.specs.First.{firstOf};
 ghost use Rattle.layout.specs.Editions.{lengthOf};
 ghost use Rattle.layout.specs.Page.{legal};
+ghost use Rattle.checking.specs.Check.{checked};
 ghost use Rattle.reading.specs.Answers.{readings};
 ghost use Rattle.spelling.specs.Same.{same};
 ghost use Rattle.writing.specs.Written.{writes, writtenIn, filledBy, written, after};
@@ -26,11 +27,40 @@ pub enum Outcome {
     Unwritten(Refusal),
 }
 
+// Does a check accept the text in this edition? Then every element of it is legal, and none has to be asked.
+fn is_accepted(edition: Edition, text: &[u8]) -> bool
+    ensures { λ r. ⌜ (r ≡ true → checked (now (text .entry)) ≡ Answer.Accepted edition) ⌝ }
+{
+    match checking::check(text) {
+        Answer::Accepted(held) => held.number() == edition.number(),
+        Answer::Refused(_) => false,
+    }
+}
+
+// Is element e of the text legal? Of a text that a check accepts this is known.
+fn is_legal(edition: Edition, text: &[u8], e: usize, is_known: bool) -> bool
+    requires { ⌜ («is_known» ≡ true → legal edition (now text) e ≡ true) ⌝ }
+    ensures { λ r. ⌜ r ≡ legal edition (now (text .entry)) e ⌝ }
+{
+    if is_known {
+        return true;
+    }
+    page::is_legal_at(edition, text, e)
+}
+
 // Is element e of the text legal, and is what it reads as the reading that was given?
-fn is_written(edition: Edition, text: &[u8], e: usize, read: Reading, given: Reading) -> bool
+fn is_written(
+    edition: Edition,
+    text: &[u8],
+    e: usize,
+    is_known: bool,
+    read: Reading,
+    given: Reading,
+) -> bool
+    requires { ⌜ («is_known» ≡ true → legal edition (now text) e ≡ true) ⌝ }
     ensures { λ r. ⌜ r ≡ (legal edition (now (text .entry)) e && same read given) ⌝ }
 {
-    page::is_legal_at(edition, text, e) && spelling::is_same(read, given)
+    is_legal(edition, text, e, is_known) && spelling::is_same(read, given)
 }
 
 // The lowest element that is not written as it was given, or 0.
@@ -39,6 +69,7 @@ fn first_unwritten(edition: Edition, entries: [Entry; 101], text: &[u8]) -> usiz
     ensures { λ r. ⌜ r ≡ firstOf 101 (writes edition (readings entries) (now (text .entry))) ⌝ }
 {
     let back = reading::read_after(Answer::Accepted(edition), text);
+    let is_known = is_accepted(edition, text);
     let mut e = 1;
     while e <= 101 {
         let k = e - 1;
@@ -46,7 +77,7 @@ fn first_unwritten(edition: Edition, entries: [Entry; 101], text: &[u8]) -> usiz
         let read = there.reading;
         let entry = entries[k];
         let given = entry.reading;
-        if !is_written(edition, text, e, read, given) {
+        if !is_written(edition, text, e, is_known, read, given) {
             return e;
         }
         e += 1;

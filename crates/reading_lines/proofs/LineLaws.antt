@@ -20,48 +20,48 @@ use Rattle.wording.proofs.PutLaws.{also, nothing, renamed}
 use Rattle.reading_lines.specs.Sentences.{readingLine, readingLines, sameText}
 
 -- one element more
-lines-next : (n e k : ℕ) (rs : List Reading) → k < length rs →
-    readingLines n e (take k rs) ++ readingLine n (e + k) (getD rs k Missing) ≡ readingLines n e (take (suc k) rs)
+lines-next : (count : List ℕ) (e k : ℕ) (rs : List Reading) → k < length rs →
+    readingLines count e (take k rs) ++ readingLine count (e + k) (getD rs k Missing) ≡ readingLines count e (take (suc k) rs)
 unfolding readingLines
-lines-next n e k [] h = absurd (omega arith)
-lines-next n e zero (r ∷ rs) h = ap (λ (i : ℕ). readingLine n i r) (add-zero e) ∙ sym (append-nil (readingLine n e r))
-lines-next n e (suc k) (r ∷ rs) h =
+lines-next count e k [] h = absurd (omega arith)
+lines-next count e zero (r ∷ rs) h = ap (λ (i : ℕ). readingLine count i r) (add-zero e) ∙ sym (append-nil (readingLine count e r))
+lines-next count e (suc k) (r ∷ rs) h =
     let place : e + suc k ≡ e + 1 + k = omega arith in
-    append-assoc (readingLine n e r) (readingLines n (e + 1) (take k rs)) _ ∙
-    ap (λ (i : ℕ). readingLine n e r ++ (readingLines n (e + 1) (take k rs) ++ readingLine n i (getD rs k Missing))) place ∙
-    ap (λ (t : List ℕ). readingLine n e r ++ t) (lines-next n (e + 1) k rs (omega arith))
+    append-assoc (readingLine count e r) (readingLines count (e + 1) (take k rs)) _ ∙
+    ap (λ (i : ℕ). readingLine count e r ++ (readingLines count (e + 1) (take k rs) ++ readingLine count i (getD rs k Missing))) place ∙
+    ap (λ (t : List ℕ). readingLine count e r ++ t) (lines-next count (e + 1) k rs (omega arith))
 
 -- there are as many readings as entries
 as-many : (es : List Entry) → length es ≡ 101 → length (readings es) ≡ 101
 as-many es full = length-map es (λ (x : Entry). x .reading) ∙ full
 
 -- the lines of the first k elements are put
-pub record Lines (n : ℕ) (es : List Entry) (at : ℕ) (before : List ℕ) (k end : ℕ) (now : List ℕ) : Type 0 where
+pub record Lines (count : List ℕ) (es : List Entry) (at : ℕ) (before : List ℕ) (k end : ℕ) (now : List ℕ) : Type 0 where
   pub within : k ≤ 101
   pub long : length now ≡ length before
   pub short : end ≤ at + 112 * k
-  pub said : Puts (readingLines n 1 (take k (readings es))) at before now end
+  pub said : Puts (readingLines count 1 (take k (readings es))) at before now end
 
-pub lines-none : (n : ℕ) (es : List Entry) (at : ℕ) (before : List ℕ) → Lines n es at before 0 at before
+pub lines-none : (count : List ℕ) (es : List Entry) (at : ℕ) (before : List ℕ) → Lines count es at before 0 at before
 unfolding readingLines
-lines-none n es at before = record { within = omega arith; long = refl; short = omega arith; said = nothing at before }
+lines-none count es at before = record { within = omega arith; long = refl; short = omega arith; said = nothing at before }
 
-module _ {n : ℕ} {es : List Entry} {at : ℕ} {before : List ℕ} {k end : ℕ} {now : List ℕ} (full : length es ≡ 101) where
-  pub lines-more : {later : List ℕ} {next : ℕ} → Lines n es at before k end now → k < 101 → at + 11312 ≤ length before → length later ≡ length now →
-      Puts (readingLine n (k + 1) ((getD es k (entry Missing)) .reading)) end now later next → next ≤ end + 112 → Lines n es at before (k + 1) next later
+module _ {count : List ℕ} {es : List Entry} {at : ℕ} {before : List ℕ} {k end : ℕ} {now : List ℕ} (full : length es ≡ 101) where
+  pub lines-more : {later : List ℕ} {next : ℕ} → Lines count es at before k end now → k < 101 → at + 11312 ≤ length before → length later ≡ length now →
+      Puts (readingLine count (k + 1) ((getD es k (entry Missing)) .reading)) end now later next → next ≤ end + 112 → Lines count es at before (k + 1) next later
   lines-more {later} {next} l h room m p s =
       let read : (getD es k (entry Missing)) .reading ≡ getD (readings es) k Missing = sym (List·getD-map (λ (x : Entry). x .reading) es k (entry Missing)) in
       let place : k + 1 ≡ 1 + k = omega arith in
-      let line = renamed (ap₂ (readingLine n) place read) p in
+      let line = renamed (ap₂ (readingLine count) place read) p in
       record {
         within = omega arith;
         long = m ∙ l .long;
         short = omega (arith, l .short);
-        said = renamed (lines-next n 1 k (readings es) (omega (arith, as-many es full)) ∙ ap (λ (j : ℕ). readingLines n 1 (take j (readings es))) (sym (add-one k))) (also (l .said) line (omega (arith, l .short)));
+        said = renamed (lines-next count 1 k (readings es) (omega (arith, as-many es full)) ∙ ap (λ (j : ℕ). readingLines count 1 (take j (readings es))) (sym (add-one k))) (also (l .said) line (omega (arith, l .short)));
       }
 
-  pub lines-all : Lines n es at before k end now → 101 ≤ k → Puts (readingLines n 1 (readings es)) at before now end × (end ≤ at + 11312)
-  lines-all l h = (renamed (ap (readingLines n 1) (take-all k (readings es) (omega (arith, as-many es full)))) (l .said), omega (arith, l .short, l .within))
+  pub lines-all : Lines count es at before k end now → 101 ≤ k → Puts (readingLines count 1 (readings es)) at before now end × (end ≤ at + 11312)
+  lines-all l h = (renamed (ap (readingLines count 1) (take-all k (readings es) (omega (arith, as-many es full)))) (l .said), omega (arith, l .short, l .within))
 
 -- two texts of different length are not the same
 stop : (x : Bool) → false ≡ (x && false)

@@ -31,22 +31,22 @@ kindWords Computed = bytesOf " computed"
 kindWords IcedMeasured = bytesOf " iced measured"
 kindWords IcedComputed = bytesOf " iced computed"
 
--- the line of element e: the count of the record, the element, and what it reads as; none where it is missing
-abbrev pub elementOf : ℕ → ℕ → List ℕ
-elementOf n e = decimal n ++ numbered (bytesOf " ") e
+-- the line of element e: the count of the record, as it is spelled, the element, and what it reads as; none where it is missing
+abbrev pub elementOf : List ℕ → ℕ → List ℕ
+elementOf count e = count ++ numbered (bytesOf " ") e
 
-unfoldable pub readingLine : ℕ → ℕ → Reading → List ℕ
-readingLine n e Missing = []
-readingLine n e (Code v) = elementOf n e ++ numbered (bytesOf " code ") v ++ lineEnd
-readingLine n e (Text v) = elementOf n e ++ numbered (bytesOf " text ") v ++ lineEnd
-readingLine n e (Amount a kind) = elementOf n e ++ bytesOf " amount " ++ signedDecimal a ++ kindWords kind ++ lineEnd
-readingLine n e (At place) =
-    elementOf n e ++ bytesOf " place " ++ signedDecimal (place .latitude) ++ numbered (bytesOf " ") (place .longitude) ++ numbered (bytesOf " ") (place .digit) ++ lineEnd
+unfoldable pub readingLine : List ℕ → ℕ → Reading → List ℕ
+readingLine count e Missing = []
+readingLine count e (Code v) = elementOf count e ++ numbered (bytesOf " code ") v ++ lineEnd
+readingLine count e (Text v) = elementOf count e ++ numbered (bytesOf " text ") v ++ lineEnd
+readingLine count e (Amount a kind) = elementOf count e ++ bytesOf " amount " ++ signedDecimal a ++ kindWords kind ++ lineEnd
+readingLine count e (At place) =
+    elementOf count e ++ bytesOf " place " ++ signedDecimal (place .latitude) ++ numbered (bytesOf " ") (place .longitude) ++ numbered (bytesOf " ") (place .digit) ++ lineEnd
 
 -- the lines of elements, from e on
-unfoldable pub readingLines : ℕ → ℕ → List Reading → List ℕ
-readingLines n e [] = []
-readingLines n e (r ∷ rs) = readingLine n e r ++ readingLines n (e + 1) rs
+unfoldable pub readingLines : List ℕ → ℕ → List Reading → List ℕ
+readingLines count e [] = []
+readingLines count e (r ∷ rs) = readingLine count e r ++ readingLines count (e + 1) rs
 
 -- two texts are the same
 unfoldable pub sameText : List ℕ → List ℕ → Bool
@@ -69,7 +69,7 @@ writtenLine n same = decimal n ++ cond same (bytesOf " written same\n") (bytesOf
 -- an accepted record: its edition, its readings, its call sign where it has one, and whether they give it back; a refused one: number and place
 unfoldable pub readText : ℕ → List ℕ → Answer → List Reading → List ℕ
 readText n line (Accepted edition) rs =
-    acceptedLine n edition ++ readingLines n 1 rs ++ callSignLine n (callSignOf (Accepted edition) line) ++ writtenLine n (writtenBack edition rs line)
+    acceptedLine n edition ++ readingLines (decimal n) 1 rs ++ callSignLine n (callSignOf (Accepted edition) line) ++ writtenLine n (writtenBack edition rs line)
 readText n line (Refused r) rs = refusedLine n r
 
 -- what is said of a record with its count, from the one call that reads it, and whether it is refused

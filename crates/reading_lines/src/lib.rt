@@ -6,7 +6,6 @@ use reading::Entry;
 use reading::Kind;
 use reading::Reading;
 use report_lines::Said;
-use wording::put_line;
 use wording::put_number;
 use wording::put_numbered;
 use wording::put_signed;
@@ -19,6 +18,7 @@ ghost use lib.ListN.{length};
 ghost use Rattle.layout.specs.Editions.{lengthOf};
 ghost use Rattle.reading.specs.declared.Reading.the-variants.{Amount, At};
 ghost use Rattle.reading.specs.Answers.{readings};
+ghost use Rattle.wording.specs.Wording.{decimal, numbered, lineEnd};
 ghost use Rattle.wording.specs.Puts.{Puts};
 ghost use Rattle.report_lines.specs.Says.{lineMost, recordMost, Says};
 ghost use Rattle.reading_lines.specs.Sentences.{kindWords, elementOf, readingLine, readingLines, sameText, writtenBack, writtenLine, readText, readSaid, readRefused};
@@ -37,20 +37,32 @@ fn put_kind(out: &mut [u8], at: usize, kind: Kind) -> usize
     }
 }
 
-// Begins the line of an element: the count of the record and the element.
-fn put_element(out: &mut [u8], at: usize, count: u64, e: u64) -> usize
-    requires { ⌜ at + 41 ≤ length (now out) ⌝ }
-    ensures { λ r. ⌜ Puts (elementOf count e) at (now (out .entry)) (now (out .exit)) r ⌝ }
+// Begins the line of an element: the count of the record, which is spelled once for all its lines, and the
+// element.
+fn put_element(out: &mut [u8], at: usize, count: &[u8], e: u64) -> usize
+    requires { ⌜ (at + 41 ≤ length (now out)) × (length (now count) ≤ 20) ⌝ }
+    ensures { λ r. ⌜ Puts (elementOf (now (count .entry)) e) at (now (out .entry)) (now (out .exit)) r ⌝ }
     ensures { λ r. ⌜ r ≤ at + 41 ⌝ }
 {
-    let after = put_number(out, at, count);
+    let after = put_text(out, at, count);
     put_numbered(out, after, b" ", e)
 }
 
+// Puts the line of an element that reads as a number, with a word before it.
+fn put_value(out: &mut [u8], at: usize, count: &[u8], e: u64, word: &[u8], n: u64) -> usize
+    requires { ⌜ (at + lineMost ≤ length (now out)) × ((length (now count) ≤ 20) × (length (now word) ≤ 6)) ⌝ }
+    ensures { λ r. ⌜ Puts (elementOf (now (count .entry)) e ++ numbered (now (word .entry)) n ++ lineEnd) at (now (out .entry)) (now (out .exit)) r ⌝ }
+    ensures { λ r. ⌜ r ≤ at + lineMost ⌝ }
+{
+    let a = put_element(out, at, count, e);
+    let b = put_numbered(out, a, word, n);
+    put_text(out, b, b"\n")
+}
+
 // Puts the line of an element that reads as an amount.
-fn put_amount(out: &mut [u8], at: usize, count: u64, e: u64, amount: i64, kind: Kind) -> usize
-    requires { ⌜ at + lineMost ≤ length (now out) ⌝ }
-    ensures { λ r. ⌜ Puts (readingLine count e (Amount amount kind)) at (now (out .entry)) (now (out .exit)) r ⌝ }
+fn put_amount(out: &mut [u8], at: usize, count: &[u8], e: u64, amount: i64, kind: Kind) -> usize
+    requires { ⌜ (at + lineMost ≤ length (now out)) × (length (now count) ≤ 20) ⌝ }
+    ensures { λ r. ⌜ Puts (readingLine (now (count .entry)) e (Amount amount kind)) at (now (out .entry)) (now (out .exit)) r ⌝ }
     ensures { λ r. ⌜ r ≤ at + lineMost ⌝ }
 {
     let a = put_element(out, at, count, e);
@@ -61,9 +73,9 @@ fn put_amount(out: &mut [u8], at: usize, count: u64, e: u64, amount: i64, kind: 
 }
 
 // Puts the line of an element that reads as a place: latitude, east longitude and the digit of column 12.
-fn put_place(out: &mut [u8], at: usize, count: u64, e: u64, place: Place) -> usize
-    requires { ⌜ at + lineMost ≤ length (now out) ⌝ }
-    ensures { λ r. ⌜ Puts (readingLine count e (At place)) at (now (out .entry)) (now (out .exit)) r ⌝ }
+fn put_place(out: &mut [u8], at: usize, count: &[u8], e: u64, place: Place) -> usize
+    requires { ⌜ (at + lineMost ≤ length (now out)) × (length (now count) ≤ 20) ⌝ }
+    ensures { λ r. ⌜ Puts (readingLine (now (count .entry)) e (At place)) at (now (out .entry)) (now (out .exit)) r ⌝ }
     ensures { λ r. ⌜ r ≤ at + lineMost ⌝ }
 {
     let a = put_element(out, at, count, e);
@@ -75,24 +87,24 @@ fn put_place(out: &mut [u8], at: usize, count: u64, e: u64, place: Place) -> usi
 }
 
 // Puts the line of an element, or none where it is missing.
-fn put_reading(out: &mut [u8], at: usize, count: u64, e: u64, reading: Reading) -> usize
-    requires { ⌜ at + lineMost ≤ length (now out) ⌝ }
-    ensures { λ r. ⌜ Puts (readingLine count e reading) at (now (out .entry)) (now (out .exit)) r ⌝ }
+fn put_reading(out: &mut [u8], at: usize, count: &[u8], e: u64, reading: Reading) -> usize
+    requires { ⌜ (at + lineMost ≤ length (now out)) × (length (now count) ≤ 20) ⌝ }
+    ensures { λ r. ⌜ Puts (readingLine (now (count .entry)) e reading) at (now (out .entry)) (now (out .exit)) r ⌝ }
     ensures { λ r. ⌜ r ≤ at + lineMost ⌝ }
 {
     match reading {
         Reading::Missing => at,
-        Reading::Code(n) => put_line(out, at, count, b" ", e, b" code ", n),
-        Reading::Text(n) => put_line(out, at, count, b" ", e, b" text ", n),
+        Reading::Code(n) => put_value(out, at, count, e, b" code ", n),
+        Reading::Text(n) => put_value(out, at, count, e, b" text ", n),
         Reading::Amount(amount, kind) => put_amount(out, at, count, e, amount, kind),
         Reading::At(place) => put_place(out, at, count, e, place),
     }
 }
 
 // Puts the lines of all 101 elements.
-fn put_readings(out: &mut [u8], at: usize, count: u64, entries: [Entry; 101]) -> usize
-    requires { ⌜ at + 11312 ≤ length (now out) ⌝ }
-    ensures { λ r. ⌜ Puts (readingLines count 1 (readings entries)) at (now (out .entry)) (now (out .exit)) r ⌝ }
+fn put_readings(out: &mut [u8], at: usize, count: &[u8], entries: [Entry; 101]) -> usize
+    requires { ⌜ (at + 11312 ≤ length (now out)) × (length (now count) ≤ 20) ⌝ }
+    ensures { λ r. ⌜ Puts (readingLines (now (count .entry)) 1 (readings entries)) at (now (out .entry)) (now (out .exit)) r ⌝ }
     ensures { λ r. ⌜ r ≤ at + 11312 ⌝ }
 {
     let mut end = at;
@@ -104,6 +116,17 @@ fn put_readings(out: &mut [u8], at: usize, count: u64, entries: [Entry; 101]) ->
         end = put_reading(out, end, count, k as u64, reading);
     }
     end
+}
+
+// Spells the count of the record, and puts the lines of all its elements.
+fn put_elements(out: &mut [u8], at: usize, count: u64, entries: [Entry; 101]) -> usize
+    requires { ⌜ at + 11312 ≤ length (now out) ⌝ }
+    ensures { λ r. ⌜ Puts (readingLines (decimal count) 1 (readings entries)) at (now (out .entry)) (now (out .exit)) r ⌝ }
+    ensures { λ r. ⌜ r ≤ at + 11312 ⌝ }
+{
+    let mut digits = [0u8; 20];
+    let length = put_number(&mut digits, 0, count);
+    put_readings(out, at, &digits[..length], entries)
 }
 
 // Are two texts the same?
@@ -164,7 +187,7 @@ fn put_record(
     let sign = checking::call_sign_after(Answer::Accepted(edition), line);
     let is_back = is_written_back(edition, entries, line);
     let a = report_lines::put_accepted(out, at, count, edition);
-    let b = put_readings(out, a, count, entries);
+    let b = put_elements(out, a, count, entries);
     let c = report_lines::put_call_sign(out, b, count, sign);
     put_written(out, c, count, is_back)
 }

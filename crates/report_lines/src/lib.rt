@@ -4,7 +4,6 @@
 // crate of its own, which answers what is declared here.
 use layout::Edition;
 use layout::Refusal;
-use wording::put_line;
 use wording::put_number;
 use wording::put_numbered;
 use wording::put_text;
@@ -31,7 +30,10 @@ pub fn put_refused(out: &mut [u8], at: usize, count: u64, refusal: Refusal) -> u
 {
     let number = refusal.number();
     let place = refusal.place();
-    put_line(out, at, count, b" refused ", number, b" ", place)
+    let a = put_number(out, at, count);
+    let b = put_numbered(out, a, b" refused ", number);
+    let c = put_numbered(out, b, b" ", place);
+    put_text(out, c, b"\n")
 }
 
 // Puts the line of a record that is accepted.

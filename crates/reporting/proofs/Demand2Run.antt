@@ -16,8 +16,7 @@ use lib.Dec.{eqb, ltb}
 use lib.ListN.{length, take, length-append}
 use Rattle.layout.specs.declared.Named.{Named}
 use Rattle.layout.specs.declared.Named.the-variants.{Known, Unknown}
-use Rattle.numerals.proofs.PlacedLaws.{placed-front}
-use Rattle.wording.specs.Puts.{Puts}
+use Rattle.wording.proofs.PutLaws.{front}
 use Rattle.recast_lines.specs.Sentences.{heading, notHeld}
 use Rattle.reporting.specs.declared.Job.{Job}
 use Rattle.reporting.specs.declared.Job.the-variants.{Recast}
@@ -232,12 +231,6 @@ pub data Fedᴰ : Run → List (List ℕ) → List ℕ → Run → Type 0 where
   unfed : {run : Run} → Fedᴰ run [] [] run
   fed : {run last : Run} {piece before after said : List ℕ} {pieces : List (List ℕ)} (r : Fed) → Feeds run piece before after r → Fedᴰ (r .run) pieces said last →
       Fedᴰ run (take (r .taken) piece ∷ pieces) (take (r .written) after ++ said) last
-
--- what stands at the front after a text was put there is the text
-front : {text before after : List ℕ} {end : ℕ} → Puts text 0 before after end → take end after ≡ text
-front {text} {before} {after} {end} p =
-    let long : end ≡ length text = omega (arith, p .ends) in
-    ap (λ (k : ℕ). take k after) long ∙ ap (take (length text)) (p .stands) ∙ placed-front text before
 
 fed-said : {run last : Run} {pieces : List (List ℕ)} {said : List ℕ} → Fedᴰ run pieces said last →
     (said ++ closing (view last) ≡ saidInPieces (view run) pieces) × (view last ≡ stateAfter (view run) (flatten pieces))

@@ -3,9 +3,9 @@ use mathlib.Core.Path.{_≡_, refl, sym, ap, _∙_}
 use mathlib.Core.List.{List, [], _++_}
 use Prim.Native.Nat.{ℕ, _+_, _≤_}
 use native.Mathlib.Omega.{arith}
-use lib.ListN.{length, length-append}
+use lib.ListN.{length, take, length-append}
 use Rattle.numerals.specs.Spelling.{placed}
-use Rattle.numerals.proofs.PlacedLaws.{placed-none, placed-length, placed-twice}
+use Rattle.numerals.proofs.PlacedLaws.{placed-front, placed-none, placed-length, placed-twice}
 use Rattle.wording.specs.Puts.{Puts}
 
 -- a text, and another right after it
@@ -21,6 +21,12 @@ also {t} {u} {at} {before} {after} {last} {next} {end} p q h =
 -- a text by another name
 pub renamed : {t u : List ℕ} {at : ℕ} {before after : List ℕ} {end : ℕ} → t ≡ u → Puts t at before after end → Puts u at before after end
 renamed e p = rw e at p
+
+-- what stands at the front after a text was put there is the text
+pub front : {text before after : List ℕ} {end : ℕ} → Puts text 0 before after end → take end after ≡ text
+front {text} {before} {after} {end} p =
+    let long : end ≡ length text = omega (arith, p .ends) in
+    ap (λ (k : ℕ). take k after) long ∙ ap (take (length text)) (p .stands) ∙ placed-front text before
 
 -- nothing is put
 pub nothing : (at : ℕ) (before : List ℕ) → Puts [] at before before at

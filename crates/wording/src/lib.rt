@@ -3,11 +3,10 @@
 // Each function answers the place right after what it put, so that a report is put together by handing
 // each answer to the next call.
 ghost use Prim.Native.Nat.{_+_, _≤_};
-ghost use mathlib.Core.List.{_++_};
 ghost use mathlib.Core.Path.{_≡_};
 ghost use lib.ListN.{length};
 ghost use Rattle.numerals.specs.Spelling.{spelled, placed};
-ghost use Rattle.wording.specs.Wording.{decimal, signedDecimal, numbered, lineEnd};
+ghost use Rattle.wording.specs.Wording.{decimal, signedDecimal, numbered};
 ghost use Rattle.wording.specs.Puts.{Puts};
 
 // Puts a text into the buffer from `at` on, and answers the place after it.
@@ -92,24 +91,4 @@ pub fn put_signed(out: &mut [u8], at: usize, n: i64) -> usize
         return put_numbered(out, at, b"-", size);
     }
     put_number(out, at, size)
-}
-
-// Puts a line of a record: its count, two words with a number after each, and the line's end.
-pub fn put_line(
-    out: &mut [u8],
-    at: usize,
-    count: u64,
-    first: &[u8],
-    n: u64,
-    second: &[u8],
-    m: u64,
-) -> usize
-    requires { ⌜ at + length (now first) + length (now second) + 61 ≤ length (now out) ⌝ }
-    ensures { λ r. ⌜ Puts (decimal count ++ numbered (now (first .entry)) n ++ numbered (now (second .entry)) m ++ lineEnd) at (now (out .entry)) (now (out .exit)) r ⌝ }
-    ensures { λ r. ⌜ r ≤ at + length (now (first .entry)) + length (now (second .entry)) + 61 ⌝ }
-{
-    let a = put_number(out, at, count);
-    let b = put_numbered(out, a, first, n);
-    let c = put_numbered(out, b, second, m);
-    put_text(out, c, b"\n")
 }

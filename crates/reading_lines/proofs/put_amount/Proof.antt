@@ -13,12 +13,15 @@ use Rattle.reading_lines.proofs.put_amount.Tie as tie
 returns : tie.Need-returns
 unfolding readingLine lineEnd bytesOf
 returns c =
-    let element = c .before .before .before .before .before .before .before .before .before .before .before .before .before .before .before .before .before .before .before .before .put-element .ensures .0 in
-    let words = c .before .before .before .before .before .before .before .before .before .before .before .before .before .before .before .put-text .ensures in
-    let amount = renamed (ap signedDecimal (itself _ (c .before .before .before .before .before .before .before .before .before .before .before .before .before .before .before .before .before .before .before .before .before .before .before .fits .amount))) (c .before .before .before .before .before .before .before .before .before .before .before .put-signed .ensures .0) in
-    let kind = c .before .before .before .before .before .before .before .put-kind .ensures .0 in
-    let end = c .before .before .put-text2 .ensures in
-    (also (also (also (also element words (omega (arith, words .ends))) amount (omega (arith, words .ends))) kind (omega (arith, words .ends))) end (omega (arith, words .ends, end .ends)), omega (arith, words .ends, end .ends))
+    let end = c .before .before in
+    let kind = end .before .before .before .before .before in
+    let amount = kind .before .before .before .before in
+    let words = amount .before .before .before .before in
+    let element = words .before .before .before .before .before in
+    let itself = ap signedDecimal (itself _ (element .before .before .before .before .fits .amount)) in
+    let begun = also (element .put-element .ensures .0) (words .put-text .ensures) (omega (arith, words .put-text .ensures .ends)) in
+    let told = also (also begun (renamed itself (amount .put-signed .ensures .0)) (omega (arith, words .put-text .ensures .ends))) (kind .put-kind .ensures .0) (omega (arith, words .put-text .ensures .ends)) in
+    (also told (end .put-text2 .ensures) (omega (arith, words .put-text .ensures .ends, end .put-text2 .ensures .ends)), omega (arith, words .put-text .ensures .ends, end .put-text2 .ensures .ends))
 
 pub put-amount-spec : {M : Type 1} → statement M
 put-amount-spec =

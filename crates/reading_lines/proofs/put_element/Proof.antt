@@ -8,7 +8,10 @@ use Rattle.reading_lines.proofs.put_element.Tie as tie
 
 returns : tie.Need-returns
 unfolding bytesOf
-returns c = (also (c .before .before .before .before .before .before .before .put-number .ensures .0) (c .before .before .put-numbered .ensures .0) (omega arith), omega arith)
+returns c =
+    let end = c .before .before in
+    let count = end .before .before .before .before .before .put-text .ensures in
+    (also count (end .put-numbered .ensures .0) (omega (arith, count .ends)), omega (arith, count .ends))
 
 pub put-element-spec : {M : Type 1} → statement M
 put-element-spec =

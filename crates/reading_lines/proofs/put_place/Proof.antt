@@ -13,16 +13,24 @@ use Rattle.reading_lines.proofs.put_place.Tie as tie
 returns : tie.Need-returns
 unfolding readingLine lineEnd bytesOf
 returns c =
-    let element = c .before .before .before .before .before .before .before .before .before .before .before .before .before .before .before .before .before .before .before .before .before .before .before .before .before .before .before .put-element .ensures in
-    let words = c .before .before .before .before .before .before .before .before .before .before .before .before .before .before .before .before .before .before .before .before .before .before .put-text .ensures in
-    let latitude = c .before .before .before .before .before .before .before .before .before .before .before .before .before .before .before .before .before .put-signed .ensures in
-    let itself = ap signedDecimal (itself (c .before .before .before .before .before .before .before .before .before .before .before .before .before .before .before .before .before .before .before .before .before .before .before .before .before .before .before .before .before .before .args .place .latitude) (record { sfits = c .before .before .before .before .before .before .before .before .before .before .before .before .before .before .before .before .before .before .struct-told .given .0 .1 })) in
-    let longitude = c .before .before .before .before .before .before .before .before .before .before .before .before .put-numbered .ensures in
-    let digit = c .before .before .before .before .before .before .before .put-numbered2 .ensures in
-    let end = c .before .before .put-text2 .ensures in
-    let begun = also (also (element .0) words (omega (arith, c .before .before .before .before .before .before .before .before .before .before .before .before .before .before .before .before .before .before .before .before .before .before .before .before .before .before .before .before .before .before .pre, element .1, words .ends))) (renamed itself (latitude .0)) (omega (arith, c .before .before .before .before .before .before .before .before .before .before .before .before .before .before .before .before .before .before .before .before .before .before .before .before .before .before .before .before .before .before .pre, element .1, words .ends, latitude .1)) in
-    let told = also (also begun (longitude .0) (omega (arith, c .before .before .before .before .before .before .before .before .before .before .before .before .before .before .before .before .before .before .before .before .before .before .before .before .before .before .before .before .before .before .pre, element .1, words .ends, latitude .1, longitude .1))) (digit .0) (omega (arith, c .before .before .before .before .before .before .before .before .before .before .before .before .before .before .before .before .before .before .before .before .before .before .before .before .before .before .before .before .before .before .pre, element .1, words .ends, latitude .1, longitude .1, digit .1)) in
-    (also told end (omega (arith, c .before .before .before .before .before .before .before .before .before .before .before .before .before .before .before .before .before .before .before .before .before .before .before .before .before .before .before .before .before .before .pre, element .1, words .ends, latitude .1, longitude .1, digit .1, end .ends)), omega (arith, c .before .before .before .before .before .before .before .before .before .before .before .before .before .before .before .before .before .before .before .before .before .before .before .before .before .before .before .before .before .before .pre, element .1, words .ends, latitude .1, longitude .1, digit .1, end .ends))
+    let end = c .before .before in
+    let digit = end .before .before .before .before .before in
+    let longitude = digit .before .before .before .before .before in
+    let latitude = longitude .before .before .before .before .before in
+    let words = latitude .before .before .before .before .before in
+    let element = words .before .before .before .before .before in
+    let start = element .before .before .before .before in
+    let itself = ap signedDecimal (itself (start .args .place .latitude) (record { sfits = latitude .before .struct-told .given .0 .1 })) in
+    let room = start .pre .0 in
+    let first = element .put-element .ensures in
+    let second = words .put-text .ensures in
+    let third = latitude .put-signed .ensures in
+    let fourth = longitude .put-numbered .ensures in
+    let fifth = digit .put-numbered2 .ensures in
+    let sixth = end .put-text2 .ensures in
+    let begun = also (also (first .0) second (omega (arith, room, first .1, second .ends))) (renamed itself (third .0)) (omega (arith, room, first .1, second .ends, third .1)) in
+    let told = also (also begun (fourth .0) (omega (arith, room, first .1, second .ends, third .1, fourth .1))) (fifth .0) (omega (arith, room, first .1, second .ends, third .1, fourth .1, fifth .1)) in
+    (also told sixth (omega (arith, room, first .1, second .ends, third .1, fourth .1, fifth .1, sixth .ends)), omega (arith, room, first .1, second .ends, third .1, fourth .1, fifth .1, sixth .ends))
 
 pub put-place-spec : {M : Type 1} → statement M
 put-place-spec =

@@ -17,16 +17,16 @@ returns c = (rw (c .enum-told .given .1) (nothing _ _), omega arith)
 
 returns-2 : tie.Need-returns-2
 unfolding readingLine bytesOf
-returns-2 c = (rw (c .before .before .before .before .before .before .before .reading .given .1) (c .before .before .put-line .ensures .0), omega arith)
+returns-2 c = (rw (c .before .before .before .before .before .before .reading .given .1) (c .before .before .put-value .ensures .0), omega arith)
 
 returns-3 : tie.Need-returns-3
 unfolding readingLine bytesOf
-returns-3 c = (rw (c .before .before .before .before .before .before .before .reading2 .given .1) (c .before .before .put-line2 .ensures .0), omega arith)
+returns-3 c = (rw (c .before .before .before .before .before .before .reading2 .given .1) (c .before .before .put-value2 .ensures .0), omega arith)
 
 returns-4 : tie.Need-returns-4
 returns-4 c =
     let itself = itself (c .before .before .before .before .before .reading3 .given .0 .0) (record { sfits = c .before .before .before .before .known-told3 .given .0 .1 }) in
-    rw (c .before .before .before .before .before .reading3 .given .1) (renamed (ap (λ (a : ℤ). readingLine (c .before .before .before .before .before .before .before .before .args .count) (c .before .before .before .before .before .before .before .before .args .e) (Amount a (c .before .before .before .before .before .reading3 .given .0 .1 .0))) itself) (c .before .before .put-amount .ensures .0), c .before .before .put-amount .ensures .1)
+    rw (c .before .before .before .before .before .reading3 .given .1) (renamed (ap (λ (a : ℤ). readingLine (c .before .before .before .before .before .before .before .before .before .args .count .now) (c .before .before .before .before .before .before .before .before .before .args .e) (Amount a (c .before .before .before .before .before .reading3 .given .0 .1 .0))) itself) (c .before .before .put-amount .ensures .0), c .before .before .put-amount .ensures .1)
 
 returns-5 : tie.Need-returns-5
 returns-5 c = rw (c .before .before .before .before .before .reading4 .given .1) (c .before .before .put-place .ensures)
@@ -38,9 +38,7 @@ put-reading-spec =
     (λ c. search needs)
     (λ c. search needs)
     (λ c. search needs)
-    (λ c. search needs)
     (λ c κs. search needs)
-    (λ c. search needs)
     (λ c. search needs)
     (λ c. search needs)
     (λ c κs. search needs)

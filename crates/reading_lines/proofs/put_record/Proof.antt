@@ -15,7 +15,7 @@ returns : tie.Need-returns
 unfolding readText
 returns c =
     let accepted = c .before .before .before .before .before .before .before .before .before .before .before .before .before .before .put-accepted .ensures in
-    let lines = c .before .before .before .before .before .before .before .before .before .before .put-readings .ensures in
+    let lines = c .before .before .before .before .before .before .before .before .before .before .put-elements .ensures in
     let sign = c .before .before .before .before .before .before .put-call-sign .ensures in
     let written = c .before .before .put-written .ensures in
     let all = also (also (also (accepted .0) (lines .0) (omega (arith, accepted .1, lines .1))) (sign .0) (omega (arith, accepted .1, lines .1, sign .1))) (written .0) (omega (arith, accepted .1, lines .1, sign .1, written .1)) in

@@ -13,9 +13,6 @@ ghost use Rattle.wording.specs.Puts.{Puts};
 ghost use Rattle.report_lines.specs.Says.{lineMost};
 ghost use Rattle.report_lines.specs.Sentences.{refusedLine, acceptedLine, callSignLine, totals};
 
-// The room that whatever a report says of a record has in the buffer.
-pub const RECORD_MOST: usize = 12288;
-
 // What saying something of a record leads to: the place after it, and whether the record was refused.
 pub struct Said {
     pub end: usize,

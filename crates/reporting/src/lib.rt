@@ -8,7 +8,6 @@ mod ends;
 use ends::line_end;
 use layout::Edition;
 use layout::Named;
-use report_lines::RECORD_MOST;
 use report_lines::Said;
 ghost use mathlib.Core.Path.{_≡_};
 ghost use mathlib.Core.List.{_++_};
@@ -74,6 +73,9 @@ struct Told {
     ledger: Ledger,
     end: usize,
 }
+
+// The room that whatever a report says of a record has in the buffer.
+const RECORD_MOST: usize = 12288;
 
 // The room that whatever is said at the end has in the buffer: what is said of a record, and the last line.
 pub const CLOSING_MOST: usize = 12400;

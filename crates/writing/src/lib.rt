@@ -1,8 +1,9 @@
 // Writing a record from readings.
 //
-// Every reading is spelled into its element's columns as well as it can be; then what was spelled is read,
-// and each element is asked whether its text is legal and reads as the reading that was given. So what is
-// written reads back, and a reading that no legal text gives is refused whatever it is.
+// Every reading is spelled into its element's columns as well as it can be; then what was spelled is checked
+// and read, and each element is asked whether it reads as the reading that was given and, where the check
+// refused the whole, whether its text is legal. So what is written reads back, and a reading that no legal
+// text gives is refused whatever it is.
 use checking::Answer;
 use layout::Edition;
 use layout::Named;

@@ -10,7 +10,7 @@ use borrow.Author.Tests.{le-leb, lt-leb, lt-ltb, le-ltb, not-true, not-false}
 use lib.Dec.{leb, ltb}
 use lib.ListN.{length, getD, set}
 use Rattle.text.specs.Bytes.{between}
-use Rattle.losses.proofs.Ways.{up-to-or-past}
+use Rattle.element_sets.proofs.Ways.{up-to-or-past}
 use Rattle.layout.specs.Page.{startOf}
 use Rattle.layout.proofs.Columns.{start-rises}
 use Rattle.blanking.specs.LostBytes.{Spot, inColumn, some, run, blankedFrom, blankedBy, blanked}

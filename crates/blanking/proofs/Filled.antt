@@ -9,16 +9,16 @@ use borrow.Author.Tests.{eqb-true, eqb-false, eq-eqb, ne-eqb, le-leb}
 use lib.Dec.{eqb}
 use lib.ListN.{length, getD}
 use Rattle.text.specs.Bytes.{every, between, blank}
-use Rattle.text.specs.Texts.{allows}
-use Rattle.text.specs.declared.Texts.{Texts}
-use Rattle.text.specs.declared.Texts.the-variants.{Nothing, Printable, Letters, CallSign, DigitOr, Within, Either, OneOf}
+use Rattle.text.specs.LegalTexts.{allows}
+use Rattle.text.specs.declared.LegalTexts.{LegalTexts}
+use Rattle.text.specs.declared.LegalTexts.the-variants.{Nothing, Printable, Letters, CallSign, DigitOr, Within, Either, OneOf}
 use Rattle.text.proofs.Ways.{and-first}
 use Rattle.text.proofs.Among.{either-half}
 use Rattle.text.proofs.Blanks.{only-blank}
 use Rattle.text.proofs.Ranges.{least}
 
 -- texts in which no blank stands
-abbrev pub solid : Texts → Bool
+abbrev pub solid : LegalTexts → Bool
 solid Letters = true
 solid (Within a b) = true
 solid (Either a b c d) = true
@@ -31,7 +31,7 @@ solid (OneOf a b c d) = false
 not-32 : (lo hi b : ℕ) → 33 ≤ lo → between lo hi b ≡ true → eqb b 32 ≡ false
 not-32 lo hi b h e = ne-eqb b 32 (λ z. omega (arith, least lo hi b e))
 
-filled-first : (s : Texts) → solid s ≡ true → (b : ℕ) (t : List ℕ) → allows s (b ∷ t) ≡ true → eqb b 32 ≡ false
+filled-first : (s : LegalTexts) → solid s ≡ true → (b : ℕ) (t : List ℕ) → allows s (b ∷ t) ≡ true → eqb b 32 ≡ false
 unfolding allows every
 filled-first Letters k b t h = not-32 65 90 b (omega arith) (and-first _ _ h)
 filled-first (Within x y) k b t h = not-32 48 57 b (omega arith) (and-first _ _ (and-first _ _ h))
@@ -48,7 +48,7 @@ legal-half m true a h = refl
 legal-half true false a h = h
 legal-half false false a h = h
 
-first-says : (s : Texts) → solid s ≡ true → (t : List ℕ) → 1 ≤ length t → (blank t || allows s t) ≡ true → blank t ≡ eqb (getD t 0 0) 32
+first-says : (s : LegalTexts) → solid s ≡ true → (t : List ℕ) → 1 ≤ length t → (blank t || allows s t) ≡ true → blank t ≡ eqb (getD t 0 0) 32
 unfolding every
 first-says s k [] l h = absurd (omega arith)
 first-says s k (b ∷ t) l h =
@@ -69,5 +69,5 @@ not-blank-byte b l h = by (eqb b 32) refl
     by true e = rw (eqb-true b 32 e)
     by false e = let f = eqb-false b 32 e in rw (le-leb 33 b (omega (arith, f)), le-leb b 126 h)
 
-pub says-filled : (s : Texts) → solid s ≡ true → (t : List ℕ) → 1 ≤ length t → (blank t || allows s t) ≡ true → 32 ≤ getD t 0 0 → getD t 0 0 ≤ 126 → not (blank t) ≡ between 33 126 (getD t 0 0)
+pub says-filled : (s : LegalTexts) → solid s ≡ true → (t : List ℕ) → 1 ≤ length t → (blank t || allows s t) ≡ true → 32 ≤ getD t 0 0 → getD t 0 0 ≤ 126 → not (blank t) ≡ between 33 126 (getD t 0 0)
 says-filled s k t n h low high = ap not (first-says s k t n h) ∙ sym (not-blank-byte (getD t 0 0) low high)

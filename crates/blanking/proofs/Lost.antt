@@ -11,19 +11,19 @@ use lib.Dec.{eqb}
 use lib.ListN.{length, getD, drop, length-drop}
 use lib.Seq.{length-take-le}
 use Rattle.text.specs.Bytes.{between, printable, blank}
-use Rattle.text.specs.Texts.{allows}
+use Rattle.text.specs.LegalTexts.{allows}
 use Rattle.text.specs.First.{firstFrom}
-use Rattle.text.specs.declared.Texts.the-variants.{CallSign}
+use Rattle.text.specs.declared.LegalTexts.the-variants.{CallSign}
 use Rattle.text.proofs.Blanks.{only-blank}
 use Rattle.text.proofs.Every.{every-at}
 use Rattle.text.proofs.First.{all-of-none}
 use Rattle.text.proofs.Ranges.{least, greatest}
 use Rattle.text.proofs.Ways.{second-holds}
-use Rattle.losses.proofs.Ways.{up-to-or-past}
+use Rattle.element_sets.proofs.Ways.{up-to-or-past}
 use Rattle.layout.specs.declared.Edition.{Edition}
 use Rattle.layout.specs.declared.Edition.the-variants.{One, Three, Four}
 use Rattle.layout.specs.Editions.{lastOf}
-use Rattle.layout.specs.Page.{page, element, widthOf, startOf, textOf, firstByte, textsOf, mayBeBlank, legalText, legal}
+use Rattle.layout.specs.Page.{page, element, widthOf, startOf, textOf, firstByte, legalTexts, mayBeBlank, legalText, legal}
 use Rattle.layout.proofs.Alike.{later-alike}
 use Rattle.layout.proofs.Columns.{some-column}
 use Rattle.layout.proofs.Elements.{in-each}
@@ -62,19 +62,19 @@ sort-of e = by (up-to-or-past e 39) (up-to-or-past e 41) (up-to-or-past e 42) (u
     by (inr a) (inr b) (inr c) (inr d) (inr f) (inr g) (inr h) = single (second-holds (between 40 41 e) _ (second-holds (between 64 86 e) _ (le-leb 94 e h)))
 
 -- what is legal and not blank is one of the texts
-allowed-half : (ed : Edition) (e : ℕ) (t : List ℕ) → blank t ≡ false → legalText ed e t ≡ true → allows (textsOf ed e) t ≡ true
-allowed-half ed e t b h = rw b at (legal-half (mayBeBlank e) (blank t) (allows (textsOf ed e) t) h)
+allowed-half : (ed : Edition) (e : ℕ) (t : List ℕ) → blank t ≡ false → legalText ed e t ≡ true → allows (legalTexts ed e) t ≡ true
+allowed-half ed e t b h = rw b at (legal-half (mayBeBlank e) (blank t) (allows (legalTexts ed e) t) h)
 
 -- the country is kept between editions that do not cross
 country-kept : (from to : Edition) (t : List ℕ) → blank t ≡ false → legalText from 43 t ≡ true → keeps from to 43 t ≡ not (crosses from to)
 unfolding keeps senseOf element page
 country-kept One One t b h = rw (allowed-half One 43 t b h)
-country-kept One Three t b h = and-none (allows (textsOf Three 43) t)
-country-kept One Four t b h = and-none (allows (textsOf Four 43) t)
-country-kept Three One t b h = and-none (allows (textsOf One 43) t)
+country-kept One Three t b h = and-none (allows (legalTexts Three 43) t)
+country-kept One Four t b h = and-none (allows (legalTexts Four 43) t)
+country-kept Three One t b h = and-none (allows (legalTexts One 43) t)
 country-kept Three Three t b h = rw (allowed-half Three 43 t b h)
 country-kept Three Four t b h = rw (allowed-half Three 43 t b h)
-country-kept Four One t b h = and-none (allows (textsOf One 43) t)
+country-kept Four One t b h = and-none (allows (legalTexts One 43) t)
 country-kept Four Three t b h = rw (allowed-half Four 43 t b h)
 country-kept Four Four t b h = rw (allowed-half Four 43 t b h)
 
@@ -92,16 +92,16 @@ filled-lost from to e t x f = by (blank t) refl
     by false k = ap not (f k) ∙ twice x
 
 -- the call sign is alike in all editions
-call-sign : (ed : Edition) (e : ℕ) → e ≡ 42 → textsOf ed e ≡ CallSign
+call-sign : (ed : Edition) (e : ℕ) → e ≡ 42 → legalTexts ed e ≡ CallSign
 unfolding element page
-call-sign ed e q = ap (textsOf ed) q ∙ in-each ed 42 CallSign refl refl refl
+call-sign ed e q = ap (legalTexts ed) q ∙ in-each ed 42 CallSign refl refl refl
 
 -- the wide ones: editions 3 and 4 have them alike, edition 1 does not have them
 module _ (e : ℕ) (l : 87 ≤ e) (h : e ≤ 93) where
-  lacking : (t : List ℕ) → allows (textsOf One e) t ≡ false
+  lacking : (t : List ℕ) → allows (legalTexts One e) t ≡ false
   lacking t = nothing-there One e (omega arith) (omega arith) t
 
-  as-in-four : (ed : Edition) → isFirst ed ≡ false → textsOf ed e ≡ textsOf Four e
+  as-in-four : (ed : Edition) → isFirst ed ≡ false → legalTexts ed e ≡ legalTexts Four e
   as-in-four One f = absurd (true≢false f)
   as-in-four Three f = later-alike e l h
   as-in-four Four f = refl
@@ -120,18 +120,18 @@ module _ (e : ℕ) (l : 87 ≤ e) (h : e ≤ 93) where
   later-gone from Three t f = absurd (true≢false (sym f))
   later-gone from Four t f = absurd (true≢false (sym f))
 
-solid-country : (ed : Edition) → solid (textsOf ed 43) ≡ true
+solid-country : (ed : Edition) → solid (legalTexts ed 43) ≡ true
 unfolding element page
 solid-country One = refl
 solid-country Three = refl
 solid-country Four = refl
 
 -- the wide ones are digits
-solid-later : (ed : Edition) (e : ℕ) → 87 ≤ e → e ≤ 93 → solid (textsOf ed e) ≡ true
+solid-later : (ed : Edition) (e : ℕ) → 87 ≤ e → e ≤ 93 → solid (legalTexts ed e) ≡ true
 unfolding firstFrom element page
-solid-later One e l h = all-of-none (λ f. solid (textsOf One f)) 87 7 (omega arith) refl e l (omega arith)
-solid-later Three e l h = all-of-none (λ f. solid (textsOf Three f)) 87 7 (omega arith) refl e l (omega arith)
-solid-later Four e l h = all-of-none (λ f. solid (textsOf Four f)) 87 7 (omega arith) refl e l (omega arith)
+solid-later One e l h = all-of-none (λ f. solid (legalTexts One f)) 87 7 (omega arith) refl e l (omega arith)
+solid-later Three e l h = all-of-none (λ f. solid (legalTexts Three f)) 87 7 (omega arith) refl e l (omega arith)
+solid-later Four e l h = all-of-none (λ f. solid (legalTexts Four f)) 87 7 (omega arith) refl e l (omega arith)
 
 module _ (from to : Edition) (xs : List ℕ) (e : ℕ) (l : 1 ≤ e) (h : e ≤ 101) (inside : startOf e + widthOf e ≤ length xs) (ok : legalText from e (textOf e xs) ≡ true) where
   abbrev byte : ℕ → ℕ
@@ -150,11 +150,11 @@ module _ (from to : Edition) (xs : List ℕ) (e : ℕ) (l : 1 ≤ e) (h : e ≤ 
   prints i k = ap printable (sym (text-byte xs e i k)) ∙ every-at printable (textOf e xs) (legal-prints from xs e ok) i (omega (arith, long))
 
   -- the first byte says whether it is filled, and in a blank text every byte is blank
-  first-filled : solid (textsOf from e) ≡ true → not (blank (textOf e xs)) ≡ between 33 126 (byte 0)
+  first-filled : solid (legalTexts from e) ≡ true → not (blank (textOf e xs)) ≡ between 33 126 (byte 0)
   first-filled s =
       let w = some-column e l h in
       let same = text-byte xs e 0 (omega arith) in
-      says-filled (textsOf from e) s (textOf e xs) (omega (arith, long)) (legal-half (mayBeBlank e) (blank (textOf e xs)) _ ok) (omega (arith, same, least 32 126 (byte 0) (prints 0 (omega arith))))
+      says-filled (legalTexts from e) s (textOf e xs) (omega (arith, long)) (legal-half (mayBeBlank e) (blank (textOf e xs)) _ ok) (omega (arith, same, least 32 126 (byte 0) (prints 0 (omega arith))))
       (omega (arith, same, greatest 32 126 (byte 0) (prints 0 (omega arith)))) ∙
       ap (between 33 126) same
 
@@ -179,7 +179,7 @@ module _ (from to : Edition) (xs : List ℕ) (e : ℕ) (l : 1 ≤ e) (h : e ≤ 
       ap (lostText from to e) text ∙ alone-lost from to e l h a (byte 0) (least 32 126 (byte 0) p) (greatest 32 126 (byte 0) p) (ap (legalText from e) (sym text) ∙ ok) in
       record { first = first; every-column = λ k i m. let none : i ≡ 0 = omega arith in rw (none, ← first) }
 
-  wherever : (x : Bool) → solid (textsOf from e) ≡ true → lostText from to e (textOf e xs) ≡ (not (blank (textOf e xs)) && x) → ((b : ℕ) → lostIn from to (inElement e) b ≡ (x && between 33 126 b)) → Says
+  wherever : (x : Bool) → solid (legalTexts from e) ≡ true → lostText from to e (textOf e xs) ≡ (not (blank (textOf e xs)) && x) → ((b : ℕ) → lostIn from to (inElement e) b ≡ (x && between 33 126 b)) → Says
   wherever x s f g = record {
     first = f ∙ ap (λ (y : Bool). y && x) (first-filled s) ∙ swap (between 33 126 (byte 0)) x ∙ sym (g (byte 0));
     every-column = λ k i m. ap (λ (y : Bool). cond y 32 (byte i)) (g (byte i)) ∙ by x (blank (textOf e xs)) i m refl ∙ ap (λ (y : Bool). cond y 32 (byte i)) (sym f);
@@ -216,7 +216,7 @@ module _ (from to : Edition) (xs : List ℕ) (e : ℕ) (l : 1 ≤ e) (h : e ≤ 
       by (added a z) = quiet (added-kept from to e (textOf e xs) a z ok) (λ b. none-between e b from to (omega arith) z (inr a))
       by (sign q) = quiet (alike-kept from to e (textOf e xs) (call-sign from e q ∙ sym (call-sign to e q)) (rw q) ok) (λ b. none-between e b from to (omega arith) (omega arith) (inl (omega arith)))
       by (country q) =
-          wherever (crosses from to) (ap (λ (k : ℕ). solid (textsOf from k)) q ∙ solid-country from)
+          wherever (crosses from to) (ap (λ (k : ℕ). solid (legalTexts from k)) q ∙ solid-country from)
           (filled-lost from to e (textOf e xs) (crosses from to) (λ b. subst (λ (k : ℕ). legalText from k (textOf e xs) ≡ true → keeps from to k (textOf e xs) ≡ not (crosses from to)) (sym q) (country-kept from to (textOf e xs) b) ok))
           (λ b. country-in e b from to q)
       by (later a z) = in-target (isFirst to) refl

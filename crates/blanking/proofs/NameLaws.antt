@@ -13,16 +13,16 @@ use lib.Dec.{eqb}
 use lib.ListN.{getD}
 use Rattle.text.specs.Bytes.{between}
 use Rattle.text.proofs.Below.{passes-below}
-use Rattle.losses.specs.Losses.{bit, word}
-use Rattle.losses.proofs.Joined.{or-words, placed-word}
-use Rattle.losses.proofs.Listed.{same-word, no-word}
-use Rattle.losses.proofs.Words.{word-set, word-not-set}
+use Rattle.element_sets.specs.ElementSets.{bit, bits}
+use Rattle.element_sets.proofs.Joined.{or-words, placed-word}
+use Rattle.element_sets.proofs.Listed.{same-word, no-word}
+use Rattle.element_sets.proofs.Words.{word-set, word-not-set}
 use Rattle.layout.specs.Page.{firstByte}
 use Rattle.blanking.specs.LostBytes.{Spot, inElement, some, named}
 use Rattle.blanking.proofs.Steps.{within, off}
 
 -- a word grows by a bit that is set or not
-pub word-on : (f : ℕ → Bool) (k n : ℕ) (w : ℕ) → w ≡ word f k n → (x : Bool) → x ≡ f (k + n) → (mask : ℕ) → mask ≡ 2 ^ n → (v : ℕ) → v ≡ cond x mask 0 → bitOr w v ≡ word f k (n + 1)
+pub word-on : (f : ℕ → Bool) (k n : ℕ) (w : ℕ) → w ≡ bits f k n → (x : Bool) → x ≡ f (k + n) → (mask : ℕ) → mask ≡ 2 ^ n → (v : ℕ) → v ≡ cond x mask 0 → bitOr w v ≡ bits f k (n + 1)
 word-on f k n w g true h mask m v q = rw (g, q, m, add-one n) (word-set f k n (sym h))
 word-on f k n w g false h mask m v q = rw (g, q, or-zero-r, add-one n) (word-not-set f k n (sym h))
 
@@ -39,7 +39,7 @@ module _ (xs : List ℕ) (lo hi : ℕ) where
   first e = between lo hi (firstByte e xs)
 
   -- the elements from k + s on, so many and one more, in a word of n bits from element k on
-  pub some-word : (k s m n : ℕ) → s + (m + 1) ≤ n → word first (k + s) (m + 1) * 2 ^ s ≡ word (named (some (k + s) (k + s + m) lo hi) xs) k n
+  pub some-word : (k s m n : ℕ) → s + (m + 1) ≤ n → bits first (k + s) (m + 1) * 2 ^ s ≡ bits (named (some (k + s) (k + s + m) lo hi) xs) k n
   some-word k s m n q =
       placed-word first (named (some (k + s) (k + s + m) lo hi) xs) k s (m + 1) n q
       (λ e l h. sym (within e (firstByte e xs) (k + s) (k + s + m) lo hi l (omega arith)))
@@ -47,8 +47,8 @@ module _ (xs : List ℕ) (lo hi : ℕ) where
       (λ e l h. off e (firstByte e xs) (k + s) (k + s + m) lo hi (k + s) (k + s + m) (le-refl _) (le-refl _) (inr (omega arith)))
 
   -- one element
-  pub one-word : (k s n : ℕ) → s + 1 ≤ n → (v : ℕ) → v ≡ cond (first (k + s)) (2 ^ s) 0 → v ≡ word (named (some (k + s) (k + s + 0) lo hi) xs) k n
-  unfolding word
+  pub one-word : (k s n : ℕ) → s + 1 ≤ n → (v : ℕ) → v ≡ cond (first (k + s)) (2 ^ s) 0 → v ≡ bits (named (some (k + s) (k + s + 0) lo hi) xs) k n
+  unfolding bits
   one-word k s n q v h = h ∙ by (first (k + s)) ∙ some-word k s 0 n q
     where
       by : (x : Bool) → cond x (2 ^ s) 0 ≡ (bit x + 0 * 2) * 2 ^ s
@@ -56,18 +56,18 @@ module _ (xs : List ℕ) (lo hi : ℕ) where
       by false = omega arith
 
   -- eight elements
-  pub eight-word : (s : ℕ) → s + 8 ≤ 37 → (w v : ℕ) → w ≡ word first (65 + s) 8 → v ≡ w * 2 ^ s → v ≡ word (named (some (65 + s) (65 + s + 7) lo hi) xs) 65 37
+  pub eight-word : (s : ℕ) → s + 8 ≤ 37 → (w v : ℕ) → w ≡ bits first (65 + s) 8 → v ≡ w * 2 ^ s → v ≡ bits (named (some (65 + s) (65 + s + 7) lo hi) xs) 65 37
   eight-word s h w v g q = q ∙ ap (λ (u : ℕ). u * 2 ^ s) g ∙ some-word 65 s 7 37 h
 
-pub joined : (f g : ℕ → Bool) (k n u v : ℕ) → u ≡ word f k n → v ≡ word g k n → bitOr u v ≡ word (λ e. f e || g e) k n
+pub joined : (f g : ℕ → Bool) (k n u v : ℕ) → u ≡ bits f k n → v ≡ bits g k n → bitOr u v ≡ bits (λ e. f e || g e) k n
 joined f g k n u v p q = rw (p, q) (or-words f g k n)
 
 -- a step that is taken or not, by its test
-pub none-named : (lost : Bool → Spot → ℕ → Bool) → ((at : Spot) (b : ℕ) → lost false at b ≡ false) → (x : Bool) → not x ≡ true → (xs : List ℕ) (k n : ℕ) → 0 ≡ word (named (lost x) xs) k n
+pub none-named : (lost : Bool → Spot → ℕ → Bool) → ((at : Spot) (b : ℕ) → lost false at b ≡ false) → (x : Bool) → not x ≡ true → (xs : List ℕ) (k n : ℕ) → 0 ≡ bits (named (lost x) xs) k n
 none-named lost f x h xs k n = sym (same-word (named (lost x) xs) (λ e. false) k n (λ e l m. rw (not-true x h) (f (inElement e) (firstByte e xs))) ∙ no-word k n)
 
-pub some-named : (lost : Bool → Spot → ℕ → Bool) (x : Bool) → not x ≡ false → (xs : List ℕ) (k n v : ℕ) → v ≡ word (named (lost true) xs) k n → v ≡ word (named (lost x) xs) k n
+pub some-named : (lost : Bool → Spot → ℕ → Bool) (x : Bool) → not x ≡ false → (xs : List ℕ) (k n v : ℕ) → v ≡ bits (named (lost true) xs) k n → v ≡ bits (named (lost x) xs) k n
 some-named lost x h xs k n v f = rw (not-false x h) f
 
-pub as-tested : (lost : Bool → Spot → ℕ → Bool) (x y : Bool) → x ≡ y → (xs : List ℕ) (k n v : ℕ) → v ≡ word (named (lost x) xs) k n → v ≡ word (named (lost y) xs) k n
+pub as-tested : (lost : Bool → Spot → ℕ → Bool) (x y : Bool) → x ≡ y → (xs : List ℕ) (k n v : ℕ) → v ≡ bits (named (lost x) xs) k n → v ≡ bits (named (lost y) xs) k n
 as-tested lost x y e xs k n v f = rw (← e) f

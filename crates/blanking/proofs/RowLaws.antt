@@ -9,7 +9,7 @@ use lib.Seq.{ext-getD}
 use Rattle.text.specs.Bytes.{between}
 use Rattle.text.proofs.Blanks.{only-blank}
 use Rattle.text.proofs.Every.{every-at}
-use Rattle.numerals.specs.Spelling.{spell, inBlanks}
+use Rattle.numerals.specs.Numerals.{spell, inBlanks}
 use Rattle.numerals.proofs.Spellings.{spelled-length, blanks-blank}
 use Rattle.layout.specs.declared.Edition.{Edition}
 use Rattle.layout.specs.declared.Edition.the-variants.{One, Three, Four}

@@ -7,7 +7,7 @@ use native.Mathlib.Omega.{arith}
 use borrow.Author.Tests.{eqb-true}
 use lib.Dec.{eqb, leb}
 use Rattle.text.specs.Bytes.{every, between, valueFrom, run}
-use Rattle.text.specs.Texts.{allows}
+use Rattle.text.specs.LegalTexts.{allows}
 use Rattle.text.specs.First.{firstFrom}
 use Rattle.text.proofs.First.{all-of-none}
 use Rattle.text.proofs.Ways.{and-first, and-second, imply, beq-true}

@@ -5,7 +5,7 @@ use mathlib.Core.Bool.{Bool, true, false, cond, not, _&&_, _||_, Bool·beq}
 use mathlib.Core.List.{List, [], _∷_}
 use lib.Dec.{leb, ltb}
 use Rattle.text.specs.Bytes.{between}
-use Rattle.numerals.specs.Spelling.{spell, inBlanks}
+use Rattle.numerals.specs.Numerals.{spell, inBlanks}
 use Rattle.layout.specs.declared.Edition.{Edition}
 use Rattle.layout.specs.declared.Edition.the-variants.{One, Three, Four}
 use Rattle.layout.specs.Page.{widthOf, startOf, textOf, firstByte}

@@ -3,15 +3,15 @@
 use crate::is_change;
 use crate::is_in;
 use crate::is_leaving;
+use element_sets::ElementSet;
 use layout::Edition;
 use layout::page;
-use losses::Losses;
 ghost use mathlib.Core.Bool.{true, false, cond};
 ghost use mathlib.Core.Path.{_≡_};
 ghost use Prim.Native.Nat.{ℕ, _+_, _*_, _^_, _<_, _≤_};
 ghost use lib.ListN.{length};
 ghost use Rattle.text.specs.Bytes.{between};
-ghost use Rattle.losses.specs.Losses.{word, lossesOf};
+ghost use Rattle.element_sets.specs.ElementSets.{bits, setOf};
 ghost use Rattle.layout.specs.Editions.{lengthOf, lastOf};
 ghost use Rattle.layout.specs.Page.{startOf, textOf, firstByte, legalText};
 ghost use Rattle.places.specs.Digits.{isFirst};
@@ -25,19 +25,12 @@ fn bit(lost: bool, mask: u8) -> u8
     if lost { mask } else { 0 }
 }
 
-// The same number, as wide as a word is.
-fn wide(b: u8) -> u64
-    ensures { λ r. ⌜ r ≡ b ⌝ }
-{
-    b as u64
-}
-
 // Eight bits moved up to their place in a word.
 fn moved(w: u8, by: u64) -> u64
     requires { ⌜ by ≤ 56 ⌝ }
     ensures { λ r. ⌜ r ≡ w * 2 ^ by ⌝ }
 {
-    wide(w) << by
+    text::byte(w) << by
 }
 
 // The bit of an element whose first byte is one from low to high.
@@ -55,7 +48,7 @@ fn name_one(line: &[u8], e: usize, low: u8, high: u8, mask: u64) -> u64
 // The bits of the eight elements from e on whose first bytes are from low to high.
 fn name_eight(line: &[u8], e: usize, low: u8, high: u8) -> u8
     requires { ⌜ ((1 ≤ e) × (e ≤ 94)) × ((startOf (e + 8) ≤ length (now line)) × (low ≤ high)) ⌝ }
-    ensures { λ r. ⌜ r ≡ word (λ k. between low high (firstByte k (now (line .entry)))) e 8 ⌝ }
+    ensures { λ r. ⌜ r ≡ bits (λ k. between low high (firstByte k (now (line .entry)))) e 8 ⌝ }
 {
     let masks = [1u8, 2, 4, 8, 16, 32, 64, 128];
     let mut w: u8 = 0;
@@ -70,7 +63,7 @@ fn name_eight(line: &[u8], e: usize, low: u8, high: u8) -> u8
 // Elements 40 and 41.
 fn name_codes(line: &[u8], changed: bool) -> u64
     requires { ⌜ 131 ≤ length (now line) ⌝ }
-    ensures { λ r. ⌜ r ≡ word (named (codesLost changed) (now (line .entry))) 1 64 ⌝ }
+    ensures { λ r. ⌜ r ≡ bits (named (codesLost changed) (now (line .entry))) 1 64 ⌝ }
 {
     if !changed {
         return 0;
@@ -82,7 +75,7 @@ fn name_codes(line: &[u8], changed: bool) -> u64
 // Element 43.
 fn name_country(line: &[u8], crossing: bool) -> u64
     requires { ⌜ 131 ≤ length (now line) ⌝ }
-    ensures { λ r. ⌜ r ≡ word (named (countryLost crossing) (now (line .entry))) 1 64 ⌝ }
+    ensures { λ r. ⌜ r ≡ bits (named (countryLost crossing) (now (line .entry))) 1 64 ⌝ }
 {
     if !crossing {
         return 0;
@@ -93,7 +86,7 @@ fn name_country(line: &[u8], crossing: bool) -> u64
 // Element 64.
 fn name_version(line: &[u8], back: bool) -> u64
     requires { ⌜ 131 ≤ length (now line) ⌝ }
-    ensures { λ r. ⌜ r ≡ word (named (versionLost back) (now (line .entry))) 1 64 ⌝ }
+    ensures { λ r. ⌜ r ≡ bits (named (versionLost back) (now (line .entry))) 1 64 ⌝ }
 {
     if !back {
         return 0;
@@ -104,7 +97,7 @@ fn name_version(line: &[u8], back: bool) -> u64
 // Elements 66 to 85.
 fn name_flags(line: &[u8], back: bool) -> u64
     requires { ⌜ 131 ≤ length (now line) ⌝ }
-    ensures { λ r. ⌜ r ≡ word (named (flagsLost back) (now (line .entry))) 65 37 ⌝ }
+    ensures { λ r. ⌜ r ≡ bits (named (flagsLost back) (now (line .entry))) 65 37 ⌝ }
 {
     if !back {
         return 0;
@@ -117,7 +110,7 @@ fn name_flags(line: &[u8], back: bool) -> u64
 // Elements 86 to 101 in a target that has them.
 fn name_later(line: &[u8], back: bool) -> u64
     requires { ⌜ 159 ≤ length (now line) ⌝ }
-    ensures { λ r. ⌜ r ≡ word (named (laterLost false back) (now (line .entry))) 65 37 ⌝ }
+    ensures { λ r. ⌜ r ≡ bits (named (laterLost false back) (now (line .entry))) 65 37 ⌝ }
 {
     if !back {
         return 0;
@@ -128,7 +121,7 @@ fn name_later(line: &[u8], back: bool) -> u64
 // Elements 86 to 101 in a target that does not have them.
 fn name_filled(line: &[u8]) -> u64
     requires { ⌜ 159 ≤ length (now line) ⌝ }
-    ensures { λ r. ⌜ r ≡ word (named (laterLost true false) (now (line .entry))) 65 37 ⌝ }
+    ensures { λ r. ⌜ r ≡ bits (named (laterLost true false) (now (line .entry))) 65 37 ⌝ }
 {
     moved(name_eight(line, 86, 33, 126), 21) | moved(name_eight(line, 94, 33, 126), 29)
 }
@@ -136,7 +129,7 @@ fn name_filled(line: &[u8]) -> u64
 // Elements 86 to 101, which a record of edition 1 does not have.
 fn name_last(from: Edition, to: Edition, line: &[u8]) -> u64
     requires { ⌜ length (now line) ≡ lengthOf from ⌝ }
-    ensures { λ r. ⌜ r ≡ word (named (laterLost (isFirst to) (leaves from to)) (now (line .entry))) 65 37 ⌝ }
+    ensures { λ r. ⌜ r ≡ bits (named (laterLost (isFirst to) (leaves from to)) (now (line .entry))) 65 37 ⌝ }
 {
     if places::column_12::is_first(from) {
         return 0;
@@ -148,16 +141,16 @@ fn name_last(from: Edition, to: Edition, line: &[u8]) -> u64
 }
 
 // The elements that a recast of the record loses.
-pub fn losses_of(from: Edition, to: Edition, line: &[u8]) -> Losses
+pub fn losses_of(from: Edition, to: Edition, line: &[u8]) -> ElementSet
     requires { ⌜ (length (now line) ≡ lengthOf from) × ((e : ℕ) → 1 ≤ e → e ≤ lastOf from → legalText from e (textOf e (now line)) ≡ true) ⌝ }
-    ensures { λ r. ⌜ r ≡ lossesOf (lostAt from to (now (line .entry))) ⌝ }
+    ensures { λ r. ⌜ r ≡ setOf (lostAt from to (now (line .entry))) ⌝ }
 {
     let back = is_leaving(from, to);
     let codes = name_codes(line, is_change(from, to));
     let country = name_country(line, places::column_12::is_crossing(from, to));
     let low = codes | country | name_version(line, back);
     let high = name_flags(line, back) | name_last(from, to, line);
-    Losses {
+    ElementSet {
         low: low,
         high: high,
     }

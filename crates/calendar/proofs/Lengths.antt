@@ -4,7 +4,7 @@ use mathlib.Core.Bool.{Bool, true, false, cond}
 use Prim.Native.Nat.{ℕ, _≤_}
 use native.Mathlib.Nat.{le-refl}
 use lib.Dec.{eqb, lit≤}
-use Rattle.text.specs.Texts.{among}
+use Rattle.text.specs.LegalTexts.{among}
 use Rattle.calendar.specs.Calendar.{lastDay, widestDay}
 
 -- the last day of a month that is not February, by whether it is one of the four

@@ -5,9 +5,10 @@ use mathlib.Core.List.{List, [], _∷_, map}
 use Prim.Native.Nat.{ℕ}
 use Rattle.text.specs.First.{firstFrom}
 use Rattle.text.specs.Bytes.{bytesOf, every, valueFrom, run}
-use Rattle.text.specs.Texts.{allows}
-use Rattle.numerals.specs.Spelling.{spelled}
-use Rattle.losses.specs.Losses.{word, lossesOf}
+use Rattle.text.specs.LegalTexts.{allows}
+use Rattle.numerals.specs.Numerals.{spelled}
+use Rattle.element_sets.specs.ElementSets.{bits, setOf}
+use Rattle.refusals.specs.Lent.{inRoom}
 use Rattle.calendar.specs.Calendar.{leaps, lastDay}
 use Rattle.layout.specs.declared.Edition.{Edition}
 use Rattle.layout.specs.declared.Edition.the-variants.{One, Three, Four}
@@ -19,7 +20,7 @@ use Rattle.ties.specs.Ties.{placeTie, octantTie, signTie, lastDigit, digitTie, 
 use Rattle.checking.specs.Check.{column, checkedIn, checked}
 use Rattle.meanings.specs.Meaning.{senseOf}
 use Rattle.meanings.specs.Kept.{keeps, lostText}
-use Rattle.recasting.specs.Recast.{hemisphere, widened, recastText, recastRecord, recastIn, recastTo, filledBy, leftTo, leftAfter}
+use Rattle.recasting.specs.Recast.{hemisphere, widened, recastText, recastRecord, recastTo, recastAfter}
 use Rattle.recasting.proofs.Request13ThereAndBack.{back}
 use Rattle.cases.specs.Cases.{at, edition1, edition3, edition4, position, lent}
 
@@ -52,5 +53,5 @@ trips =
     []
 
 pub trips-computed : map (λ t. back (t .from) (t .to) (t .sets-out) lent lent) trips ≡ map (λ t. t .comes-home) trips
-unfolding lent at edition1 edition3 edition4 bytesOf spelled checked checkedIn column legal allows every valueFrom run textOf startOf columns element page tie firstBroken firstFrom octantTie octantFits placeTie signTie digitTie lastDigit windTie dayTie latestDay leaps lastDay south west placeAt recastTo recastIn lossesOf word keeps lostText senseOf hemisphere lowestDigit suits leftAfter leftTo filledBy recastRecord recordFrom rowFrom recastText widened
+unfolding lent at edition1 edition3 edition4 bytesOf spelled checked checkedIn column legal allows every valueFrom run textOf startOf columns element page tie firstBroken firstFrom octantTie octantFits placeTie signTie digitTie lastDigit windTie dayTie latestDay leaps lastDay south west placeAt recastTo recastAfter inRoom setOf bits keeps lostText senseOf hemisphere lowestDigit suits recastRecord recordFrom rowFrom recastText widened
 trips-computed = refl

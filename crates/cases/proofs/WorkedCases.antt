@@ -6,9 +6,10 @@ use mathlib.Core.List.{List, [], _∷_, map}
 use lib.IntN.{ℤ, pos, negsuc, negℤ}
 use Rattle.text.specs.First.{firstFrom}
 use Rattle.text.specs.Bytes.{bytesOf, every, valueFrom, run}
-use Rattle.text.specs.Texts.{allows}
-use Rattle.numerals.specs.Spelling.{spelled}
-use Rattle.losses.specs.Losses.{elements, word, lossesOf, hasLoss}
+use Rattle.text.specs.LegalTexts.{allows}
+use Rattle.numerals.specs.Numerals.{spelled}
+use Rattle.element_sets.specs.ElementSets.{passing, bits, setOf, hasElement}
+use Rattle.refusals.specs.Lent.{inRoom}
 use Rattle.calendar.specs.Calendar.{leaps, lastDay}
 use Rattle.layout.specs.Page.{element, page, columns, startOf, textOf, legal}
 use Rattle.layout.specs.Records.{rowFrom, recordFrom}
@@ -33,12 +34,8 @@ use Rattle.recasting.specs.Recast.{
   widened,
   recastText,
   recastRecord,
-  recastIn,
   recastTo,
   recastAfter,
-  filledBy,
-  leftTo,
-  leftAfter,
 }
 use Rattle.cases.specs.Cases.{
   at,
@@ -198,5 +195,5 @@ abbrev pub answers : List Result
 answers = map (λ w. w .answered) worked
 
 pub worked-cases : map answer cases ≡ answers
-unfolding answer lent at edition1 edition3 edition4 bytesOf spelled checked checkedIn column legal allows every valueFrom run textOf startOf columns element page tie firstBroken firstFrom octantTie octantFits placeTie signTie digitTie lastDigit windTie dayTie latestDay leaps lastDay readAfter entriesFrom itemOf plain temperature south west placeAt latitudeFigure longitudeFigure recastAfter recastTo recastIn lossesOf word elements hasLoss keeps lostText senseOf platformSense hemisphere lowestDigit suits leftAfter leftTo filledBy recastRecord recordFrom rowFrom recastText widened Written.writtenAs Written.writtenIn Written.afterAs Written.filledBy Written.writes recordOf numeralFor amountNumeral placeNumeral same partsOf placeOf departure missing said
+unfolding answer lent at edition1 edition3 edition4 bytesOf spelled checked checkedIn column legal allows every valueFrom run textOf startOf columns element page tie firstBroken firstFrom octantTie octantFits placeTie signTie digitTie lastDigit windTie dayTie latestDay leaps lastDay readAfter entriesFrom itemOf plain temperature south west placeAt latitudeFigure longitudeFigure recastAfter recastTo inRoom setOf bits passing hasElement keeps lostText senseOf platformSense hemisphere lowestDigit suits recastRecord recordFrom rowFrom recastText widened Written.writtenAs Written.writtenIn Written.writes recordOf numeralFor amountNumeral placeNumeral same partsOf placeOf departure missing said
 worked-cases = refl

@@ -5,18 +5,20 @@ use Prim.Native.String.{String}
 use mathlib.Core.List.{List, []}
 use lib.ListN.{length}
 use Rattle.text.specs.Bytes.{bytesOf}
-use Rattle.numerals.specs.Spelling.{placed, spelled}
-use Rattle.losses.specs.Losses.{lostList, hasLoss}
+use Rattle.numerals.specs.Numerals.{placed, spelled}
+use Rattle.element_sets.specs.ElementSets.{listOf, hasElement}
 use Rattle.checking.specs.declared.Answer.{Answer}
-use Rattle.checking.specs.Check.{checked, answerNumber, answerPlace}
+use Rattle.refusals.specs.declared.Verdict.{Verdict}
+use Rattle.refusals.specs.Verdicts.{verdictNumber, verdictPlace}
+use Rattle.refusals.specs.Lent.{verdictIn, leftBy}
+use Rattle.checking.specs.Check.{checked, answerVerdict}
 use Rattle.reading.specs.declared.Reading.{Reading}
 use Rattle.reading.specs.declared.Reading.the-variants.{Missing}
 use Rattle.reading.specs.declared.Readings.{Readings}
 use Rattle.reading.specs.Answers.{readOf, readAs}
-use Rattle.writing.specs.declared.Outcome as WriteOutcome
-use Rattle.writing.specs.Written as Written
+use Rattle.writing.specs.Written.{written}
 use Rattle.recasting.specs.declared.Outcome.{Outcome}
-use Rattle.recasting.specs.Recast.{blanks, recastOf, leftOf, outcomeNumber, outcomePlace, outcomeLosses}
+use Rattle.recasting.specs.Recast.{blanks, recastOf, outcomeIn}
 
 -- a record with a text from column c on
 unfoldable pub at : ℕ → String → List ℕ → List ℕ
@@ -67,23 +69,23 @@ abbrev pub result : ℕ → ℕ → Reading → List ℕ → List ℕ → Result
 result n p r ls xs = record { number = n; place = p; reading = r; lost = ls; buffer = xs }
 
 abbrev pub ofAnswer : Answer → Result
-ofAnswer a = result (answerNumber a) (answerPlace a) Missing [] []
+ofAnswer a = result (verdictNumber (answerVerdict a)) (verdictPlace (answerVerdict a)) Missing [] []
 
 abbrev pub ofReadings : Readings → ℕ → Result
-ofReadings all e = result (answerNumber (all .answer)) (answerPlace (all .answer)) (readAs (all .entries) e) [] []
+ofReadings all e = result (verdictNumber (answerVerdict (all .answer))) (verdictPlace (answerVerdict (all .answer))) (readAs (all .entries) e) [] []
 
 abbrev pub ofOutcome : Outcome → List ℕ → Result
-ofOutcome o after = result (outcomeNumber o) (outcomePlace o) Missing (lostList (hasLoss (outcomeLosses o))) after
+ofOutcome o left = result (verdictNumber (o .verdict)) (verdictPlace (o .verdict)) Missing (listOf (hasElement (o .losses))) left
 
-abbrev pub ofWritten : WriteOutcome.Outcome → List ℕ → Result
-ofWritten o after = result (Written.outcomeNumber o) (Written.outcomePlace o) Missing [] after
+abbrev pub ofVerdict : Verdict → List ℕ → Result
+ofVerdict v left = result (verdictNumber v) (verdictPlace v) Missing [] left
 
 -- what the calls' own definitions answer
 unfoldable pub answer : Case → Result
 answer (check xs) = ofAnswer (checked xs)
 answer (read e xs) = ofReadings (readOf xs) e
-answer (recast n xs) = ofOutcome (recastOf xs n (length lent)) (leftOf xs n lent)
-answer (write n rs) = ofWritten (Written.written rs n (length lent)) (Written.after rs n lent)
+answer (recast n xs) = ofOutcome (outcomeIn (length lent) (recastOf xs n)) (leftBy (recastOf xs n) lent)
+answer (write n rs) = ofVerdict (verdictIn (length lent) (written rs n)) (leftBy (written rs n) lent)
 
 -- the answers that the cases name: accepted, a refusal with its place, a reading
 abbrev pub accepted : Result

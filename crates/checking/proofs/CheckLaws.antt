@@ -11,22 +11,23 @@ use Rattle.text.specs.First.{firstOf}
 use Rattle.layout.specs.declared.Edition.{Edition}
 use Rattle.layout.specs.declared.Named.{Named}
 use Rattle.layout.specs.declared.Named.the-variants.{Known}
-use Rattle.layout.specs.declared.Refusal.{Refusal}
-use Rattle.layout.specs.declared.Refusal.the-variants.{Length, Unprintable, Format, EditionLength, Illegal, Broken}
+use Rattle.refusals.specs.declared.Refusal.{Refusal}
+use Rattle.refusals.specs.declared.Refusal.the-variants.{Length, Unprintable, Format, EditionLength, Illegal, Broken}
+use Rattle.refusals.specs.Verdicts.{refusedAt}
 use Rattle.layout.specs.Editions.{editionOf, lengthOf, lastOf}
 use Rattle.layout.specs.Page.{firstByte, legal}
 use Rattle.layout.proofs.Demand2Columns.{column-1, column-111}
 use Rattle.ties.specs.Ties.{firstBroken}
 use Rattle.checking.specs.declared.Answer.{Answer}
 use Rattle.checking.specs.declared.Answer.the-variants.{Accepted, Refused}
-use Rattle.checking.specs.Check.{knownLength, knownFormat, printableAt, named, column, refusedAt, checkedIn, checked}
+use Rattle.checking.specs.Check.{knownLength, knownFormat, printableAt, named, column, checkedIn, checked}
 use Rattle.checking.proofs.Placed.{first-of}
 
 -- a place was found, or none was
-pub found : (r : ℕ → Refusal) (p : ℕ) (next : Answer) → (p ≡ 0 → ⊥) → Refused (r p) ≡ refusedAt r p next
+pub found : (r : ℕ → Refusal) (p : ℕ) (next : Answer) → (p ≡ 0 → ⊥) → Refused (r p) ≡ refusedAt Refused r p next
 found r p next h = rw (ne-eqb p 0 h)
 
-pub nowhere : (r : ℕ → Refusal) (p : ℕ) (next : Answer) → p ≡ 0 → next ≡ refusedAt r p next
+pub nowhere : (r : ℕ → Refusal) (p : ℕ) (next : Answer) → p ≡ 0 → next ≡ refusedAt Refused r p next
 nowhere r p next h = rw (eq-eqb p 0 h)
 
 module _ (ed : Edition) (xs : List ℕ) where

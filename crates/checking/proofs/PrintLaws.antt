@@ -10,16 +10,16 @@ use lib.Dec.{leb}
 use lib.ListN.{length, getD, take, drop}
 use lib.Seq.{take-all, take-add}
 use Rattle.text.specs.Bytes.{every, between, printable, isDigit, isLetter, blank, digits, number, valueFrom, run}
-use Rattle.text.specs.Texts.{isSign, digitOr, allows}
-use Rattle.text.specs.declared.Texts.{Texts}
-use Rattle.text.specs.declared.Texts.the-variants.{Nothing, Printable, Letters, CallSign, DigitOr, Within, Either, OneOf}
+use Rattle.text.specs.LegalTexts.{isSign, digitOr, allows}
+use Rattle.text.specs.declared.LegalTexts.{LegalTexts}
+use Rattle.text.specs.declared.LegalTexts.the-variants.{Nothing, Printable, Letters, CallSign, DigitOr, Within, Either, OneOf}
 use Rattle.text.proofs.Ranges.{least, greatest, wider}
 use Rattle.text.proofs.Ways.{and-first, and-second}
 use Rattle.layout.specs.declared.Edition.{Edition}
 use Rattle.layout.specs.declared.Edition.the-variants.{One, Three, Four}
 use Rattle.layout.specs.declared.Named.the-variants.{Known}
 use Rattle.layout.specs.Editions.{editionOf, lengthOf, lastOf}
-use Rattle.layout.specs.Page.{Element, page, none, elements, element, columns, widthOf, startOf, textOf, firstByte, textsIn, textsOf, mayBeBlank, legal}
+use Rattle.layout.specs.Page.{Element, page, none, elements, element, columns, widthOf, startOf, textOf, firstByte, legalTextsIn, legalTexts, mayBeBlank, legal}
 use Rattle.layout.proofs.Columns.{start-next, filled}
 use Rattle.layout.proofs.Parts.{one-byte}
 use Rattle.layout.proofs.RecordLaws.{begins}
@@ -59,7 +59,7 @@ signs-print (b ∷ t) e = by (isSign b) refl (signs-print t) e
     by false f k g = blanks-print (b ∷ t) g
 
 -- the byte that may stand in a digit's place is printable, which antt computes over the page
-abbrev prints : Texts → Bool
+abbrev prints : LegalTexts → Bool
 prints Nothing = true
 prints Printable = true
 prints Letters = true
@@ -69,22 +69,22 @@ prints (Within a b) = true
 prints (Either a b c d) = true
 prints (OneOf a b c d) = true
 
-abbrev all-print : (Element → Texts) → List Element → Bool
+abbrev all-print : (Element → LegalTexts) → List Element → Bool
 all-print f [] = true
 all-print f (x ∷ l) = prints (f x) && all-print f l
 
-print-at : (f : Element → Texts) → prints (f none) ≡ true → (l : List Element) → all-print f l ≡ true → (e : ℕ) → prints (f (getD l e none)) ≡ true
+print-at : (f : Element → LegalTexts) → prints (f none) ≡ true → (l : List Element) → all-print f l ≡ true → (e : ℕ) → prints (f (getD l e none)) ≡ true
 print-at f z [] t e = z
 print-at f z (x ∷ l) t zero = and-first _ _ t
 print-at f z (x ∷ l) t (suc e) = print-at f z l (and-second (prints (f x)) _ t) e
 
-page-prints : (ed : Edition) (e : ℕ) → prints (textsOf ed e) ≡ true
+page-prints : (ed : Edition) (e : ℕ) → prints (legalTexts ed e) ≡ true
 unfolding element page
-page-prints One e = print-at (textsIn One) refl elements refl e
-page-prints Three e = print-at (textsIn Three) refl elements refl e
-page-prints Four e = print-at (textsIn Four) refl elements refl e
+page-prints One e = print-at (legalTextsIn One) refl elements refl e
+page-prints Three e = print-at (legalTextsIn Three) refl elements refl e
+page-prints Four e = print-at (legalTextsIn Four) refl elements refl e
 
-allowed-prints : (s : Texts) → prints s ≡ true → (t : List ℕ) → allows s t ≡ true → every printable t ≡ true
+allowed-prints : (s : LegalTexts) → prints s ≡ true → (t : List ℕ) → allows s t ≡ true → every printable t ≡ true
 unfolding allows
 allowed-prints Nothing p t e = absurd (true≢false (sym e))
 allowed-prints Printable p t e = e
@@ -103,10 +103,10 @@ pub legal-prints : (ed : Edition) (xs : List ℕ) (e : ℕ) → legal ed xs e �
 unfolding legal
 legal-prints ed xs e h = by (mayBeBlank e) (blank (textOf e xs)) refl h
   where
-    by : (x y : Bool) → blank (textOf e xs) ≡ y → ((x && y) || allows (textsOf ed e) (textOf e xs)) ≡ true → every printable (textOf e xs) ≡ true
+    by : (x y : Bool) → blank (textOf e xs) ≡ y → ((x && y) || allows (legalTexts ed e) (textOf e xs)) ≡ true → every printable (textOf e xs) ≡ true
     by true true f g = blanks-print (textOf e xs) f
-    by true false f g = allowed-prints (textsOf ed e) (page-prints ed e) (textOf e xs) g
-    by false y f g = allowed-prints (textsOf ed e) (page-prints ed e) (textOf e xs) g
+    by true false f g = allowed-prints (legalTexts ed e) (page-prints ed e) (textOf e xs) g
+    by false y f g = allowed-prints (legalTexts ed e) (page-prints ed e) (textOf e xs) g
 
 -- a record whose elements are legal is printable
 module _ (ed : Edition) (xs : List ℕ) (full : length xs ≡ lengthOf ed) (lawful : (e : ℕ) → 1 ≤ e → e ≤ lastOf ed → legal ed xs e ≡ true) where

@@ -15,15 +15,16 @@ use Rattle.text.proofs.First.{Found, at-none, at-lowest, found}
 use Rattle.layout.specs.declared.Edition.{Edition}
 use Rattle.layout.specs.declared.Named.{Named}
 use Rattle.layout.specs.declared.Named.the-variants.{Known, Unknown}
-use Rattle.layout.specs.declared.Refusal.{Refusal}
-use Rattle.layout.specs.declared.Refusal.the-variants.{Length, Unprintable, Format, Version, EditionLength, Illegal, Broken}
+use Rattle.refusals.specs.declared.Refusal.{Refusal}
+use Rattle.refusals.specs.declared.Refusal.the-variants.{Length, Unprintable, Format, Version, EditionLength, Illegal, Broken}
 use Rattle.layout.specs.Editions.{lengthOf, lastOf}
 use Rattle.layout.specs.Page.{legal}
-use Rattle.layout.specs.Refusals.{numberOf, placeOf}
+use Rattle.refusals.specs.Refusals.{numberOf, whereOf}
+use Rattle.refusals.specs.Verdicts.{unless, refusedAt}
 use Rattle.ties.specs.Ties.{tie}
 use Rattle.checking.specs.declared.Answer.{Answer}
 use Rattle.checking.specs.declared.Answer.the-variants.{Accepted, Refused}
-use Rattle.checking.specs.Check.{column, knownLength, printableAt, knownFormat, named, unless, refusedAt, checkedIn, checked}
+use Rattle.checking.specs.Check.{column, knownLength, printableAt, knownFormat, named, checkedIn, checked}
 use Rattle.checking.specs.Rules.{only, isKnown, ofEdition, rules, rule, FirstFailure}
 use Rattle.checking.specs.Acceptable.{Fits}
 use Rattle.layout.proofs.Beyond.{legal-none, legal-zero}
@@ -91,20 +92,20 @@ module _ (xs : List ℕ) where
       reach (more h) = none (omega arith)
 
   -- a rule of one place: it fails there, or what follows is told
-  by-test : (kept : Bool) (r : Refusal) (a : Answer) → ((q : ℕ) → rule xs (numberOf r) q ≡ only (placeOf r) kept q) → Past (numberOf r) →
-      (kept ≡ true → Past (suc (numberOf r)) → Told xs a) → Told xs (unless kept r a)
+  by-test : (kept : Bool) (r : Refusal) (a : Answer) → ((q : ℕ) → rule xs (numberOf r) q ≡ only (whereOf r) kept q) → Past (numberOf r) →
+      (kept ≡ true → Past (suc (numberOf r)) → Told xs a) → Told xs (unless Refused kept r a)
   unfolding Told Fits
-  by-test true r a f past next = next refl (one-more _ past (λ q. f q ∙ only-kept (placeOf r) q))
+  by-test true r a f past next = next refl (one-more _ past (λ q. f q ∙ only-kept (whereOf r) q))
   by-test false r a f past next = record {
-    fails = f (placeOf r) ∙ only-there (placeOf r) false;
+    fails = f (whereOf r) ∙ only-there (whereOf r) false;
     earlier = past;
-    lower = λ q h. f q ∙ only-below (placeOf r) q false h;
+    lower = λ q h. f q ∙ only-below (whereOf r) q false h;
   }
 
   -- a rule of several places: it fails at the lowest that was found, or what follows is told
-  module _ (n : ℕ) (r : ℕ → Refusal) (test : ℕ → Bool) (a : Answer) (number : (p : ℕ) → numberOf (r p) ≡ n) (place : (p : ℕ) → placeOf (r p) ≡ p)
+  module _ (n : ℕ) (r : ℕ → Refusal) (test : ℕ → Bool) (a : Answer) (number : (p : ℕ) → numberOf (r p) ≡ n) (place : (p : ℕ) → whereOf (r p) ≡ p)
       (is : (q : ℕ) → rule xs n q ≡ test q) (past : Past n) (next : ((q : ℕ) → test q ≡ true) → Past (suc n) → Told xs a) where
-    by-place : (p : ℕ) → Found test p → Told xs (refusedAt r p a)
+    by-place : (p : ℕ) → Found test p → Told xs (refusedAt Refused r p a)
     unfolding Told Fits
     by-place p (at-none f) = next f (one-more n past (λ q. is q ∙ f q))
     by-place p (at-lowest q low x f) =

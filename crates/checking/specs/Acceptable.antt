@@ -10,7 +10,7 @@ use Rattle.layout.specs.declared.Named.the-variants.{Known}
 use Rattle.layout.specs.Editions.{editionOf, lengthOf, lastOf}
 use Rattle.layout.specs.Page.{legal}
 use Rattle.ties.specs.Ties.{tie}
-use Rattle.layout.specs.Refusals.{numberOf, placeOf}
+use Rattle.refusals.specs.Refusals.{numberOf, whereOf}
 use Rattle.checking.specs.declared.Answer.{Answer}
 use Rattle.checking.specs.declared.Answer.the-variants.{Accepted, Refused}
 use Rattle.checking.specs.Check.{column, printableAt, knownFormat}
@@ -33,4 +33,4 @@ pub record Acceptable (ed : Edition) (xs : List ℕ) : Type 0 where
 -- an answer fits: the record is one of that edition, or that refusal's rule is the first to fail, at that place
 unfoldable pub Fits : List ℕ → Answer → Type 0
 Fits xs (Accepted ed) = Acceptable ed xs
-Fits xs (Refused r) = FirstFailure xs (numberOf r) (placeOf r)
+Fits xs (Refused r) = FirstFailure xs (numberOf r) (whereOf r)

@@ -9,11 +9,12 @@ use Rattle.text.specs.Bytes.{between, printable, toLastNonBlank}
 use Rattle.text.specs.First.{firstOf}
 use Rattle.layout.specs.declared.Named.{Named}
 use Rattle.layout.specs.declared.Named.the-variants.{Known, Unknown}
-use Rattle.layout.specs.declared.Refusal.{Refusal}
-use Rattle.layout.specs.declared.Refusal.the-variants.{Length, Unprintable, Format, Version, EditionLength, Illegal, Broken}
+use Rattle.refusals.specs.declared.Refusal.the-variants.{Length, Unprintable, Format, Version, EditionLength, Illegal, Broken}
 use Rattle.layout.specs.Editions.{editionOf, lengthOf, lastOf}
 use Rattle.layout.specs.Page.{legal, textOf}
-use Rattle.layout.specs.Refusals.{numberOf, placeOf}
+use Rattle.refusals.specs.declared.Verdict.{Verdict}
+use Rattle.refusals.specs.declared.Verdict.the-variants as Verdict
+use Rattle.refusals.specs.Verdicts.{unless, refusedAt}
 use Rattle.ties.specs.Ties.{firstBroken}
 use Rattle.checking.specs.declared.Answer.{Answer}
 use Rattle.checking.specs.declared.Answer.the-variants.{Accepted, Refused}
@@ -38,37 +39,26 @@ knownFormat b = between 51 53 b
 abbrev pub named : List ℕ → Named
 named xs = editionOf (column 111 xs)
 
--- refused for r unless the test passed; refused for r at the place that was found, if one was
-abbrev pub unless : Bool → Refusal → Answer → Answer
-unless kept r next = cond kept next (Refused r)
-
-abbrev pub refusedAt : (ℕ → Refusal) → ℕ → Answer → Answer
-refusedAt r p next = cond (eqb p 0) next (Refused (r p))
-
 -- 5. the length is that edition's; 6. each element is blank or legal; 7. each tie holds
 unfoldable pub checkedIn : Named → List ℕ → Answer
 checkedIn Unknown xs = Refused Version
 checkedIn (Known ed) xs =
-    unless (eqb (length xs) (lengthOf ed)) EditionLength
-    (refusedAt Illegal (firstOf (lastOf ed) (legal ed xs))
-    (refusedAt Broken (firstBroken ed xs)
+    unless Refused (eqb (length xs) (lengthOf ed)) EditionLength
+    (refusedAt Refused Illegal (firstOf (lastOf ed) (legal ed xs))
+    (refusedAt Refused Broken (firstBroken ed xs)
     (Accepted ed)))
 
 unfoldable pub checked : List ℕ → Answer
 checked xs =
-    unless (knownLength (length xs)) Length
-    (refusedAt Unprintable (firstOf (length xs) (printableAt xs))
-    (unless (knownFormat (column 1 xs)) Format
+    unless Refused (knownLength (length xs)) Length
+    (refusedAt Refused Unprintable (firstOf (length xs) (printableAt xs))
+    (unless Refused (knownFormat (column 1 xs)) Format
     (checkedIn (named xs) xs)))
 
--- an answer's number and place, as document 01 has them: 0 and 0 where the record is accepted
-abbrev pub answerNumber : Answer → ℕ
-answerNumber (Accepted ed) = 0
-answerNumber (Refused r) = numberOf r
-
-abbrev pub answerPlace : Answer → ℕ
-answerPlace (Accepted ed) = 0
-answerPlace (Refused r) = placeOf r
+-- what an answer says by its verdict: fine where the record is accepted
+abbrev pub answerVerdict : Answer → Verdict
+answerVerdict (Accepted ed) = Verdict.Fine
+answerVerdict (Refused r) = Verdict.Refused r
 
 -- the call sign: element 42, from column 72 to its last non-blank; empty if missing or if the record is refused
 unfoldable pub callSignOf : Answer → List ℕ → List ℕ

@@ -5,15 +5,16 @@
 use faults::strays;
 use layout::Edition;
 use layout::Named;
-use layout::Refusal;
 use layout::page;
+use refusals::Refusal;
+use refusals::Verdict;
 ghost use mathlib.Core.Path.{_≡_};
 ghost use Prim.Native.Nat.{_≤_};
 ghost use lib.ListN.{length};
 ghost use Rattle.text.specs.First.{firstOf};
 ghost use Rattle.layout.specs.declared.Edition.{Edition};
 ghost use Rattle.layout.specs.Editions.{lengthOf};
-ghost use Rattle.checking.specs.Check.{knownLength, printableAt, checkedIn, checked, answerNumber, answerPlace, callSignOf};
+ghost use Rattle.checking.specs.Check.{knownLength, printableAt, checkedIn, checked, answerVerdict, callSignOf};
 
 // What checking a record answers.
 pub enum Answer {
@@ -23,23 +24,13 @@ pub enum Answer {
 }
 
 impl Answer {
-    // The number of the refusal, 0 where there is none.
-    pub fn number(self) -> u64
-        ensures { λ r. ⌜ r ≡ answerNumber self ⌝ }
+    // What the answer says by its verdict.
+    pub fn verdict(self) -> Verdict
+        ensures { λ r. ⌜ r ≡ answerVerdict self ⌝ }
     {
         match self {
-            Answer::Accepted(_) => 0,
-            Answer::Refused(refusal) => refusal.number(),
-        }
-    }
-
-    // The place that goes with it.
-    pub fn place(self) -> u64
-        ensures { λ r. ⌜ r ≡ answerPlace self ⌝ }
-    {
-        match self {
-            Answer::Accepted(_) => 0,
-            Answer::Refused(refusal) => refusal.place(),
+            Answer::Accepted(_) => Verdict::Fine,
+            Answer::Refused(refusal) => Verdict::Refused(refusal),
         }
     }
 }

@@ -16,7 +16,7 @@ use Rattle.text.proofs.Among.{either-half}
 use Rattle.text.proofs.Ranges.{greatest}
 use Rattle.layout.specs.declared.Edition.{Edition}
 use Rattle.layout.specs.declared.Edition.the-variants.{One, Three, Four}
-use Rattle.layout.specs.Page.{Element, page, none, elements, element, widthOf, columns, startOf, textsIn, textsOf}
+use Rattle.layout.specs.Page.{Element, page, none, elements, element, widthOf, columns, startOf, legalTextsIn, legalTexts}
 use Rattle.columns.specs.Tables.{allowed, Cell, cell, cellOf, cellsFrom, cells, cellAt, fits}
 
 -- each run goes up, and to no more than 126
@@ -73,18 +73,18 @@ module _ (ed : Edition) (k : ℕ) where
 
 -- the columns of element e begin after those of the elements before it
 flat : (ed : Edition) (es : List Element) (e p : ℕ) → p < (getD es e none) .width →
-    getD (cellsFrom ed es) (columns (take e es) + p) (cell 0 0 0 0) ≡ cellOf ((getD es e none) .width) (textsIn ed (getD es e none))
+    getD (cellsFrom ed es) (columns (take e es) + p) (cell 0 0 0 0) ≡ cellOf ((getD es e none) .width) (legalTextsIn ed (getD es e none))
 unfolding cellsFrom columns
 flat ed [] zero p h = absurd (not-suc-le-zero h)
 flat ed [] (suc e) p h = absurd (not-suc-le-zero h)
 flat ed (x ∷ es) zero p h =
-    ap (λ (n : ℕ). getD (replicate (x .width) (cellOf (x .width) (textsIn ed x)) ++ cellsFrom ed es) n (cell 0 0 0 0)) (zero-add p) ∙
+    ap (λ (n : ℕ). getD (replicate (x .width) (cellOf (x .width) (legalTextsIn ed x)) ++ cellsFrom ed es) n (cell 0 0 0 0)) (zero-add p) ∙
     List·getD-append (replicate (x .width) _) (cellsFrom ed es) (cell 0 0 0 0) p (rw length-replicate h) ∙ getD-replicate (x .width) p _ (cell 0 0 0 0) h
 flat ed (x ∷ es) (suc e) p h =
-    let at : x .width + columns (take e es) + p ≡ length (replicate (x .width) (cellOf (x .width) (textsIn ed x))) + (columns (take e es) + p) = rw length-replicate (omega arith) in
-    ap (λ (n : ℕ). getD (replicate (x .width) (cellOf (x .width) (textsIn ed x)) ++ cellsFrom ed es) n (cell 0 0 0 0)) at ∙
+    let at : x .width + columns (take e es) + p ≡ length (replicate (x .width) (cellOf (x .width) (legalTextsIn ed x))) + (columns (take e es) + p) = rw length-replicate (omega arith) in
+    ap (λ (n : ℕ). getD (replicate (x .width) (cellOf (x .width) (legalTextsIn ed x)) ++ cellsFrom ed es) n (cell 0 0 0 0)) at ∙
     getD-append-add (replicate (x .width) _) (cellsFrom ed es) (columns (take e es) + p) (cell 0 0 0 0) ∙ flat ed es e p h
 
-pub cell-at : (ed : Edition) (e p : ℕ) → p < widthOf e → cellAt ed (startOf e + p) ≡ cellOf (widthOf e) (textsOf ed e)
+pub cell-at : (ed : Edition) (e p : ℕ) → p < widthOf e → cellAt ed (startOf e + p) ≡ cellOf (widthOf e) (legalTexts ed e)
 unfolding cellAt cells startOf element cellsFrom
 cell-at ed e p h = flat ed elements e p h

@@ -7,11 +7,11 @@ use mathlib.Core.Bool.{Bool, true, cond, not, _&&_, _||_, Bool·beq}
 use lib.Dec.{eqb, leb}
 use lib.ListN.{getD, take, drop, replicate}
 use Rattle.text.specs.Bytes.{either}
-use Rattle.text.specs.declared.Texts.{Texts}
-use Rattle.text.specs.declared.Texts.the-variants.{Nothing, Printable, Letters, CallSign, DigitOr, Within, Either, OneOf}
+use Rattle.text.specs.declared.LegalTexts.{LegalTexts}
+use Rattle.text.specs.declared.LegalTexts.the-variants.{Nothing, Printable, Letters, CallSign, DigitOr, Within, Either, OneOf}
 use Rattle.layout.specs.declared.Edition.{Edition}
 use Rattle.layout.specs.Editions.{lengthOf}
-use Rattle.layout.specs.Page.{Element, page, textsIn}
+use Rattle.layout.specs.Page.{Element, page, legalTextsIn}
 
 -- a blank, or a byte of one of two runs
 unfoldable pub allowed : ℕ → ℕ → ℕ → ℕ → ℕ → Bool
@@ -32,7 +32,7 @@ abbrev pub cell : ℕ → ℕ → ℕ → ℕ → Cell
 cell l h a t = record { low = l; high = h; also = a; to = t }
 
 -- a column of an element as wide as w with these texts: in one column its own digits, or the runs that they lie in; in more any digit
-unfoldable pub cellOf : ℕ → Texts → Cell
+unfoldable pub cellOf : ℕ → LegalTexts → Cell
 cellOf w Nothing = cell 32 32 32 32
 cellOf w Printable = cell 32 126 32 126
 cellOf w Letters = cell 65 90 65 90
@@ -43,7 +43,7 @@ cellOf w (Either a b c d) = cond (eqb w 1) (cell (48 + a) (48 + b) (48 + c) (48 
 cellOf w (OneOf a b c d) = cond (eqb w 1) (cell (48 + a) (48 + b) (48 + c) (48 + d)) (cell 48 57 48 57)
 
 -- the bonds inside an element: its columns are blank or filled together; a call sign may end after its third
-unfoldable pub inside : ℕ → Texts → List ℕ
+unfoldable pub inside : ℕ → LegalTexts → List ℕ
 inside w CallSign = 61 ∷ 61 ∷ 62 ∷ 62 ∷ 62 ∷ 62 ∷ []
 inside w Nothing = replicate (w - 1) 61
 inside w Printable = replicate (w - 1) 61
@@ -60,7 +60,7 @@ after e = cond (eqb e 6 || eqb e 7 || eqb e 16 || eqb e 18 || eqb e 28 || eqb e 
 -- the columns of some elements one after the other, and their bonds, the first of them element e
 unfoldable pub cellsFrom : Edition → List Element → List Cell
 cellsFrom ed [] = []
-cellsFrom ed (x ∷ xs) = replicate (x .width) (cellOf (x .width) (textsIn ed x)) ++ cellsFrom ed xs
+cellsFrom ed (x ∷ xs) = replicate (x .width) (cellOf (x .width) (legalTextsIn ed x)) ++ cellsFrom ed xs
 
 unfoldable pub bondsFrom : ℕ → List Element → List ℕ
 bondsFrom e [] = []

@@ -10,17 +10,17 @@ use borrow.Author.Tests.{eqb-true}
 use lib.Dec.{eqb}
 use lib.ListN.{length, getD}
 use Rattle.text.specs.Bytes.{every, valueFrom, word, run}
-use Rattle.text.specs.Texts.{allows, member}
+use Rattle.text.specs.LegalTexts.{allows, member}
 use Rattle.text.proofs.Ways.{and-first, and-second, second-holds, decide, imply}
 use Rattle.text.proofs.Among.{either-half}
 use Rattle.text.proofs.Below.{everyBelow, passes-below}
-use Rattle.numerals.specs.Spelling.{spelled}
+use Rattle.numerals.specs.Numerals.{spelled}
 use Rattle.layout.specs.declared.Edition.{Edition}
 use Rattle.layout.specs.declared.Edition.the-variants.{One, Three, Four}
 use Rattle.layout.specs.declared.Named.{Named}
 use Rattle.layout.specs.declared.Named.the-variants.{Known, Unknown}
 use Rattle.layout.specs.Editions.{editionOf, lengthOf, lastOf}
-use Rattle.layout.specs.Page.{page, element, widthOf, columns, startOf, textOf, firstByte, textsOf, mayBeBlank, legalText, legal}
+use Rattle.layout.specs.Page.{page, element, widthOf, columns, startOf, textOf, firstByte, legalTexts, mayBeBlank, legalText, legal}
 use Rattle.layout.proofs.Parts.{text-byte, one-byte}
 use Rattle.layout.proofs.RecordLaws.{ends, text-long}
 use Rattle.columns.specs.Tables.{allowed, joined, cellOf, bonds, bondsFrom, bondAt, inside, after, fits, Columns}
@@ -60,7 +60,7 @@ extra ed e b = cond (eqb e 1 || eqb e 65) (not (eqb b 32)) (cond (eqb e 46) (nei
 
 -- each byte that the cell and the code allow is legal alone
 sound : Edition → ℕ → ℕ → Bool
-sound ed e b = not (fits (cellOf 1 (textsOf ed e)) b && extra ed e b) || legalText ed e (b ∷ [])
+sound ed e b = not (fits (cellOf 1 (legalTexts ed e)) b && extra ed e b) || legalText ed e (b ∷ [])
 
 single : Edition → ℕ → Bool
 single ed e = everyBelow 127 (sound ed e)
@@ -70,13 +70,13 @@ sameLimit : Limit → Limit → Bool
 sameLimit l m = eqb (l .top) (m .top) && (eqb (l .gap) (m .gap) && eqb (l .end) (m .end))
 
 bonded : Edition → ℕ → Bool
-bonded ed e = everyBelow (widthOf e - 1) (λ p. eqb (bondAt (startOf e + p)) (wanted (textsOf ed e) p))
+bonded ed e = everyBelow (widthOf e - 1) (λ p. eqb (bondAt (startOf e + p)) (wanted (legalTexts ed e) p))
 
 bounded : Edition → ℕ → Bool
-bounded ed e = unlimited (widthOf e) (textsOf ed e) || (member e (listed ed) && sameLimit (limitOf (widthOf e) (textsOf ed e)) (limitOf (widthOf e) (element e .in4)))
+bounded ed e = unlimited (widthOf e) (legalTexts ed e) || (member e (listed ed) && sameLimit (limitOf (widthOf e) (legalTexts ed e)) (limitOf (widthOf e) (element e .in4)))
 
 wide : Edition → ℕ → Bool
-wide ed e = (mayBeBlank e && told (textsOf ed e) (widthOf e)) && (bonded ed e && bounded ed e)
+wide ed e = (mayBeBlank e && told (legalTexts ed e) (widthOf e)) && (bonded ed e && bounded ed e)
 
 fine : Edition → ℕ → Bool
 fine ed e = cond (eqb (widthOf e) 1) (single ed e) (wide ed e)
@@ -134,7 +134,7 @@ module _ (ed : Edition) (xs : List ℕ) (full : length xs ≡ lengthOf ed) (name
     place : (p : ℕ) → p < widthOf e → startOf e + p < lengthOf ed
     place p l = omega (arith, ends ed e h)
 
-    held-at : (p : ℕ) → p < widthOf e → fits (cellOf (widthOf e) (textsOf ed e)) (getD xs (startOf e + p) 0) ≡ true
+    held-at : (p : ℕ) → p < widthOf e → fits (cellOf (widthOf e) (legalTexts ed e)) (getD xs (startOf e + p) 0) ≡ true
     held-at p l = rw (cell-at ed e p l) at (cols (startOf e + p) (place p l) .held)
 
     -- an element of one column
@@ -144,31 +144,31 @@ module _ (ed : Edition) (xs : List ℕ) (full : length xs ≡ lengthOf ed) (name
         let b = firstByte e xs in
         let here : getD xs (startOf e + 0) 0 ≡ b = ap (λ (i : ℕ). getD xs i 0) (omega arith) in
         let first : 0 < widthOf e = omega arith in
-        let f : fits (cellOf 1 (textsOf ed e)) b ≡ true =
-        ap (λ (n : ℕ). fits (cellOf n (textsOf ed e)) b) (sym w) ∙ ap (λ (x : ℕ). fits (cellOf (widthOf e) (textsOf ed e)) x) (sym here) ∙ held-at 0 first in
+        let f : fits (cellOf 1 (legalTexts ed e)) b ≡ true =
+        ap (λ (n : ℕ). fits (cellOf n (legalTexts ed e)) b) (sym w) ∙ ap (λ (x : ℕ). fits (cellOf (widthOf e) (legalTexts ed e)) x) (sym here) ∙ held-at 0 first in
         let u : b ≤ 126 = omega (arith, here, at-most-126 ed (startOf e + 0) _ (cols (startOf e + 0) (place 0 first) .held)) in
         let text : textOf e xs ≡ b ∷ [] = one-byte xs e w (omega (arith, place 0 first, full)) in
-        ap (legalText ed e) text ∙ imply (fits (cellOf 1 (textsOf ed e)) b && extra ed e b) _ (passes-below 127 (sound ed e) t b (omega arith)) (rw (f, extra-holds e))
+        ap (legalText ed e) text ∙ imply (fits (cellOf 1 (legalTexts ed e)) b && extra ed e b) _ (passes-below 127 (sound ed e) t b (omega arith)) (rw (f, extra-holds e))
 
     -- a wider one
     legal-several : wide ed e ≡ true → legal ed xs e ≡ true
     unfolding wide legal bonded bounded
     legal-several t =
-        let a = and-first (mayBeBlank e && told (textsOf ed e) (widthOf e)) _ t in
-        let r = and-second (mayBeBlank e && told (textsOf ed e) (widthOf e)) _ t in
+        let a = and-first (mayBeBlank e && told (legalTexts ed e) (widthOf e)) _ t in
+        let r = and-second (mayBeBlank e && told (legalTexts ed e) (widthOf e)) _ t in
         let long = text-long ed xs full e h in
         may-be (mayBeBlank e) _ _ (and-first _ _ a)
-        (legal-wide (textOf e xs) (textsOf ed e)
+        (legal-wide (textOf e xs) (legalTexts ed e)
         (rw long (and-second (mayBeBlank e) _ a))
         (λ p l. rw (long, text-byte xs e p (rw long at l)) (held-at p (rw long at l)))
         (λ p l. let m : suc p < widthOf e = rw long at l in
         let i : startOf e + suc p ≡ startOf e + p + 1 = omega arith in
-        let q : bondAt (startOf e + p) ≡ wanted (textsOf ed e) p = eqb-true _ _ (passes-below (widthOf e - 1) _ (and-first _ _ r) p (omega arith)) in
+        let q : bondAt (startOf e + p) ≡ wanted (legalTexts ed e) p = eqb-true _ _ (passes-below (widthOf e - 1) _ (and-first _ _ r) p (omega arith)) in
         ap (λ (k : ℕ). joined k (getD (textOf e xs) p 0) (getD (textOf e xs) (suc p) 0)) (sym q) ∙ rw (text-byte xs e p (omega arith), text-byte xs e (suc p) m, i) (cols (startOf e + p) (place p (omega arith)) .bound))
         (rw long (⊎-elim
         (λ x. rw x)
-        (λ x. second-holds (unlimited (widthOf e) (textsOf ed e)) _ (same-limits _ _ (word (textOf e xs)) (and-second (member e (listed ed)) _ x) (limits-of ed rest e (and-first _ _ x))))
-        (either-half (unlimited (widthOf e) (textsOf ed e)) _ (and-second (bonded ed e) _ r)))))
+        (λ x. second-holds (unlimited (widthOf e) (legalTexts ed e)) _ (same-limits _ _ (word (textOf e xs)) (and-second (member e (listed ed)) _ x) (limits-of ed rest e (and-first _ _ x))))
+        (either-half (unlimited (widthOf e) (legalTexts ed e)) _ (and-second (bonded ed e) _ r)))))
 
   pub lawful : (e : ℕ) → 1 ≤ e → e ≤ lastOf ed → legal ed xs e ≡ true
   unfolding fine

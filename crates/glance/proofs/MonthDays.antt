@@ -12,7 +12,7 @@ use Rattle.text.specs.Bytes.{between, blank, digits, number, word, valueFrom}
 use Rattle.text.proofs.Ways.{and-first, and-second, imply}
 use Rattle.text.proofs.Below.{everyBelow, passes-below}
 use Rattle.text.proofs.Ranges.{greatest}
-use Rattle.numerals.specs.Spelling.{spelled}
+use Rattle.numerals.specs.Numerals.{spelled}
 use Rattle.numerals.proofs.Backs.{digits-back}
 use Rattle.calendar.specs.Calendar.{lastDay}
 use Rattle.ties.proofs.Days.{blank-says-0}

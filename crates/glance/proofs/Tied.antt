@@ -11,27 +11,27 @@ use lib.Dec.{eqb, leb}
 use lib.ListN.{length, getD, take, drop, length-drop, replicate}
 use lib.Seq.{take-suc, getD-drop}
 use Rattle.text.specs.Bytes.{every, between, blank, digits, number, word, valueFrom}
-use Rattle.text.specs.Texts.{allows, among}
+use Rattle.text.specs.LegalTexts.{allows, among}
 use Rattle.text.proofs.Ways.{and-first, and-second, second-holds, decide, imply}
 use Rattle.text.proofs.Among.{either-half}
 use Rattle.text.proofs.Below.{everyBelow, passes-below}
 use Rattle.text.proofs.Blanks.{only-blank}
 use Rattle.text.proofs.Order.{zeros}
 use Rattle.text.proofs.Ranges.{greatest}
-use Rattle.numerals.specs.Spelling.{spelled}
+use Rattle.numerals.specs.Numerals.{spelled}
 use Rattle.numerals.proofs.Spellings.{value-last}
 use Rattle.layout.specs.declared.Edition.{Edition}
 use Rattle.layout.specs.declared.Edition.the-variants.{One, Three, Four}
 use Rattle.layout.specs.Editions.{lengthOf, lastOf}
-use Rattle.text.specs.declared.Texts.the-variants.{Within}
-use Rattle.layout.specs.Page.{page, element, widthOf, columns, startOf, textOf, firstByte, textsOf, mayBeBlank, legal}
+use Rattle.text.specs.declared.LegalTexts.the-variants.{Within}
+use Rattle.layout.specs.Page.{page, element, widthOf, columns, startOf, textOf, firstByte, legalTexts, mayBeBlank, legal}
 use Rattle.layout.proofs.Columns.{start-next, some-column}
 use Rattle.layout.proofs.Elements.{last-below, in-each}
 use Rattle.layout.proofs.Parts.{text-byte, one-byte}
 use Rattle.layout.proofs.RecordLaws.{ends, begins, text-long}
 use Rattle.layout.proofs.Beyond.{text-none, last-above}
 use Rattle.places.specs.Places.{octantFits}
-use Rattle.ties.specs.Ties.{there, placeTie, octantTie, negative, signTie, lastDigit, tenthsFit, measuredFit, digitTie, windTie, dayTie, ties, tie}
+use Rattle.ties.specs.Ties.{there, placeTie, octantTie, minus, signTie, lastDigit, tenthsFit, measuredFit, digitTie, windTie, dayTie, ties, tie}
 use Rattle.ties.proofs.Days.{in-every-year}
 use Rattle.columns.specs.Tables.{allowed, joined, cellOf, cellsFrom, cells, cellAt, bonds, bondsFrom, bondAt, inside, after, fits, Columns}
 use Rattle.columns.proofs.Bonds.{after-blank, same-blank, first-says}
@@ -53,7 +53,7 @@ wind-holds s i x true p q f = rw (p, f refl)
 wind-holds s i x false p q f = second-holds (blank s) _ (rw q)
 
 -- a sign that is no minus before zeros
-minus-no : (a b c d : ℕ) → plusZero (a + b * 256 + c * 65536 + d * 16777216) ≡ true → b ≡ 48 → c ≡ 48 → d ≡ 48 → negative (number (a ∷ [])) ≡ false
+minus-no : (a b c d : ℕ) → plusZero (a + b * 256 + c * 65536 + d * 16777216) ≡ true → b ≡ 48 → c ≡ 48 → d ≡ 48 → minus (number (a ∷ [])) ≡ false
 unfolding plusZero valueFrom
 minus-no a b c d h p q r =
     let n = a + b * 256 + c * 65536 + d * 16777216 in
@@ -72,7 +72,7 @@ sign-holds b v true l p q d z =
     rw (p, q, blank-sign)
 sign-holds b v false l p q d z =
     let whole : digits v ≡ true = rw q at d in
-    rw (p, q) (and-none (negative (number (b ∷ []))) (eqb (number v) 0)
+    rw (p, q) (and-none (minus (number (b ∷ []))) (eqb (number v) 0)
     (λ e. let t : v ≡ replicate (length v) 48 = zeros v whole (eqb-true (number v) 0 e) in
     let u : v ≡ replicate 3 48 = t ∙ ap (λ (n : ℕ). replicate n 48) l in
     minus-no b (getD v 0 0) (getD v 1 0) (getD v 2 0) z (ap (λ (w : List ℕ). getD w 0 0) u) (ap (λ (w : List ℕ). getD w 1 0) u) (ap (λ (w : List ℕ). getD w 2 0) u)))
@@ -133,7 +133,7 @@ module _ (ed : Edition) (xs : List ℕ) (full : length xs ≡ lengthOf ed) (cols
     with-next t = along (startOf e) (widthOf e) (widthOf e) t (le-refl (widthOf e)) (ends ed e h) ∙ ap (λ (i : ℕ). eqb (getD xs i 0) 32) (sym (start-next e))
 
   -- a number that may be blank: its digits, and a sign of one column that is at most 1
-  module _ (e a b : ℕ) (m : mayBeBlank e ≡ true) (t : textsOf ed e ≡ Within a b) (k : 1 ≤ e) (l : e ≤ 85) where
+  module _ (e a b : ℕ) (m : mayBeBlank e ≡ true) (t : legalTexts ed e ≡ Within a b) (k : 1 ≤ e) (l : e ≤ 85) where
     within : (blank (textOf e xs) ≡ true) ⊎ ((digits (textOf e xs) && between a b (number (textOf e xs))) ≡ true)
     unfolding legal allows
     within = either-half (blank (textOf e xs)) _ (rw (m, t) at (legal-at e k (omega (arith, last-above ed))))

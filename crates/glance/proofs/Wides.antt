@@ -9,14 +9,14 @@ use borrow.Author.Tests.{eqb-true, ne-eqb, leb-true, leb-false, le-leb, not-true
 use lib.Dec.{eqb, leb}
 use lib.ListN.{length, getD, drop}
 use Rattle.text.specs.Bytes.{every, between, either, blank, digits, number, word, run}
-use Rattle.text.specs.Texts.{allows, isSign, callSign}
-use Rattle.text.specs.declared.Texts.{Texts}
-use Rattle.text.specs.declared.Texts.the-variants.{Nothing, Printable, Letters, CallSign, DigitOr, Within, Either, OneOf}
+use Rattle.text.specs.LegalTexts.{allows, isSign, callSign}
+use Rattle.text.specs.declared.LegalTexts.{LegalTexts}
+use Rattle.text.specs.declared.LegalTexts.the-variants.{Nothing, Printable, Letters, CallSign, DigitOr, Within, Either, OneOf}
 use Rattle.text.proofs.Ways.{and-first, and-second, second-holds, decide}
 use Rattle.text.proofs.Among.{either-half}
 use Rattle.text.proofs.Ranges.{wider}
 use Rattle.text.proofs.Order.{as-words, as-numbers, most}
-use Rattle.numerals.specs.Spelling.{spelled}
+use Rattle.numerals.specs.Numerals.{spelled}
 use Rattle.columns.specs.Tables.{allowed, joined, cellOf, fits}
 use Rattle.columns.proofs.Bonds.{after-byte, blanks, whole}
 use Rattle.glance.specs.Tests.{inLimit}
@@ -47,7 +47,7 @@ module _ (t : List ℕ) (d : digits t ≡ true) (n : ℕ) (s : spells (length t)
   reaching h = as-numbers _ t short (and-first _ _ s) d (omega (arith, same))
 
 -- the bond after place p inside an element
-abbrev pub wanted : Texts → ℕ → ℕ
+abbrev pub wanted : LegalTexts → ℕ → ℕ
 wanted CallSign p = cond (leb p 1) 61 62
 wanted Nothing p = 61
 wanted Printable p = 61
@@ -58,7 +58,7 @@ wanted (Either a b c d) p = 61
 wanted (OneOf a b c d) p = 61
 
 -- any digits, letters or call signs will do
-abbrev pub unlimited : ℕ → Texts → Bool
+abbrev pub unlimited : ℕ → LegalTexts → Bool
 unlimited w (Within a b) = eqb a 0 && leb (nines w) b
 unlimited w Nothing = false
 unlimited w Printable = false
@@ -69,7 +69,7 @@ unlimited w (Either a b c d) = false
 unlimited w (OneOf a b c d) = false
 
 -- the texts that wider elements have, in so many columns
-abbrev pub told : Texts → ℕ → Bool
+abbrev pub told : LegalTexts → ℕ → Bool
 told CallSign w = leb 3 w
 told Letters w = leb 2 w
 told (Within a b) w = leb 2 w && (spells w 0 && (spells w a && spells w b))
@@ -160,10 +160,10 @@ one-run lo hi (b ∷ t) l f j =
     (λ e. second-holds (blank (b ∷ t)) _ (wider (either lo hi lo hi) (between lo hi) (λ x h. twice (between lo hi x) h) (b ∷ t) (rw e at (whole (either lo hi lo hi) b t f (λ p h. j p (suc-le-suc h))))))
 
 module _ (t : List ℕ) where
-  then-allowed : (q : Bool) (s : Texts) → (blank t || q) ≡ true → (q ≡ true → allows s t ≡ true) → (blank t || allows s t) ≡ true
+  then-allowed : (q : Bool) (s : LegalTexts) → (blank t || q) ≡ true → (q ≡ true → allows s t ≡ true) → (blank t || allows s t) ≡ true
   then-allowed q s h f = ⊎-elim (λ b. rw b) (λ d. second-holds (blank t) _ (f d)) (either-half (blank t) q h)
 
-  pub legal-wide : (s : Texts) → told s (length t) ≡ true → ((p : ℕ) → p < length t → fits (cellOf (length t) s) (getD t p 0) ≡ true) →
+  pub legal-wide : (s : LegalTexts) → told s (length t) ≡ true → ((p : ℕ) → p < length t → fits (cellOf (length t) s) (getD t p 0) ≡ true) →
       ((p : ℕ) → suc p < length t → joined (wanted s p) (getD t p 0) (getD t (suc p) 0) ≡ true) →
       (unlimited (length t) s || limits (limitOf (length t) s) (word t)) ≡ true → (blank t || allows s t) ≡ true
   unfolding cellOf allows allowed

@@ -6,9 +6,9 @@ use mathlib.Core.Bool.{Bool, true, cond}
 use lib.Dec.{leb}
 use lib.ListN.{replicate}
 use Rattle.text.specs.Bytes.{number, word}
-use Rattle.text.specs.declared.Texts.{Texts}
-use Rattle.text.specs.declared.Texts.the-variants.{Nothing, Printable, Letters, CallSign, DigitOr, Within, Either, OneOf}
-use Rattle.numerals.specs.Spelling.{spelled}
+use Rattle.text.specs.declared.LegalTexts.{LegalTexts}
+use Rattle.text.specs.declared.LegalTexts.the-variants.{Nothing, Printable, Letters, CallSign, DigitOr, Within, Either, OneOf}
+use Rattle.numerals.specs.Numerals.{spelled}
 use Rattle.layout.specs.Page.{element, widthOf, textOf}
 use Rattle.glance.specs.Tests.{inLimit}
 
@@ -31,7 +31,7 @@ abbrev pub topOf : ℕ → ℕ → ℕ
 topOf w n = cond (leb (nines w) n) 4294967295 (inColumns w n)
 
 -- the limits of texts that are numbers in w columns; others have none
-unfoldable pub limitOf : ℕ → Texts → Limit
+unfoldable pub limitOf : ℕ → LegalTexts → Limit
 limitOf w (Within a b) = limit (topOf w b) (inColumns w 0) (inColumns w a)
 limitOf w (Either a b c d) = limit (topOf w d) (inColumns w (b + 1)) (inColumns w c)
 limitOf w Nothing = limit 0 0 0

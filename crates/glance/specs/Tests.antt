@@ -4,7 +4,7 @@ use mathlib.Core.List.{List}
 use mathlib.Core.Bool.{Bool, cond, not, _&&_, _||_}
 use lib.Dec.{eqb, leb}
 use lib.ListN.{getD}
-use Rattle.text.specs.Texts.{among}
+use Rattle.text.specs.LegalTexts.{among}
 
 -- a number that is at most `top` and does not stand in the gap from `gap` on, up to `end`
 unfoldable pub inLimit : ℕ → ℕ → ℕ → ℕ → Bool

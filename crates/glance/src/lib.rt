@@ -111,23 +111,16 @@ fn codes_off(line: &[u8]) -> u8
     equal(page::first_byte(line, 1), 32) | one_of(page::first_byte(line, 46), 50, 51)
 }
 
-// A byte as a number.
-fn wide(b: u8) -> u64
-    ensures { λ r. ⌜ (r ≡ b) × (r ≤ 255) ⌝ }
-{
-    b as u64
-}
-
 // Four bytes as one number, the last highest, as the processor takes them at once. Nothing is asked of
 // their order.
 fn backwards(line: &[u8], at: usize) -> u64
     requires { ⌜ at + 4 ≤ length (now line) ⌝ }
     ensures { λ r. ⌜ r ≡ lastHighest (now (line .entry)) at ⌝ }
 {
-    wide(line[at])
-        + wide(line[at + 1]) * 256
-        + wide(line[at + 2]) * 65536
-        + wide(line[at + 3]) * 16777216
+    text::byte(line[at])
+        + text::byte(line[at + 1]) * 256
+        + text::byte(line[at + 2]) * 65536
+        + text::byte(line[at + 3]) * 16777216
 }
 
 // Is it a minus before zeros, 1000 or 6000?

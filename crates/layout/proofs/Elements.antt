@@ -8,12 +8,12 @@ use native.Mathlib.Omega.{arith}
 use lib.Dec.{lit≤}
 use lib.ListN.{length, take, drop}
 use Rattle.text.specs.Bytes.{blank}
-use Rattle.text.specs.Texts.{allows}
-use Rattle.text.specs.declared.Texts.{Texts}
+use Rattle.text.specs.LegalTexts.{allows}
+use Rattle.text.specs.declared.LegalTexts.{LegalTexts}
 use Rattle.layout.specs.declared.Edition.{Edition}
 use Rattle.layout.specs.declared.Edition.the-variants.{One, Three, Four}
 use Rattle.layout.specs.Editions.{lengthOf, lastOf}
-use Rattle.layout.specs.Page.{element, widthOf, startOf, textOf, textsOf, mayBeBlank, legalText, legal}
+use Rattle.layout.specs.Page.{element, widthOf, startOf, textOf, legalTexts, mayBeBlank, legalText, legal}
 use Rattle.layout.proofs.Columns.{start-next, start-rises, filled}
 use Rattle.layout.proofs.LegalTexts.{in-all}
 
@@ -40,16 +40,16 @@ unfolding legal
 legal-of ed xs t e f r g = g ∙ ap (legalText ed e) f
 
 -- an element whose texts are the same in all editions
-pub in-each : (ed : Edition) (e : ℕ) (s : Texts) → element e .in1 ≡ s → element e .in3 ≡ s → element e .in4 ≡ s → textsOf ed e ≡ s
+pub in-each : (ed : Edition) (e : ℕ) (s : LegalTexts) → element e .in1 ≡ s → element e .in3 ≡ s → element e .in4 ≡ s → legalTexts ed e ≡ s
 in-each ed e s p q r = rw (p, q, r) (sym (in-all ed s))
 
 -- blanks are legal where they may stand, and what is allowed is legal
 pub blank-legal : (ed : Edition) (e : ℕ) (t : List ℕ) → mayBeBlank e ≡ true → blank t ≡ true → legalText ed e t ≡ true
 blank-legal ed e t m b = rw (m, b)
 
-pub allowed-legal : (ed : Edition) (e : ℕ) (t : List ℕ) → allows (textsOf ed e) t ≡ true → legalText ed e t ≡ true
+pub allowed-legal : (ed : Edition) (e : ℕ) (t : List ℕ) → allows (legalTexts ed e) t ≡ true → legalText ed e t ≡ true
 allowed-legal ed e t a = by (mayBeBlank e && blank t)
   where
-    by : (x : Bool) → (x || allows (textsOf ed e) t) ≡ true
+    by : (x : Bool) → (x || allows (legalTexts ed e) t) ≡ true
     by true = refl
     by false = a

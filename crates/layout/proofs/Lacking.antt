@@ -6,16 +6,16 @@ use Prim.Native.Nat.{ℕ, zero, suc, _+_, _-_, _<_, _≤_}
 use native.Mathlib.Omega.{arith}
 use lib.ListN.{getD, drop}
 use lib.Seq.{getD-drop}
-use Rattle.text.specs.Texts.{allows}
-use Rattle.text.specs.declared.Texts.{Texts}
-use Rattle.text.specs.declared.Texts.the-variants.{Nothing, Printable, Letters, CallSign, DigitOr, Within, Either, OneOf}
+use Rattle.text.specs.LegalTexts.{allows}
+use Rattle.text.specs.declared.LegalTexts.{LegalTexts}
+use Rattle.text.specs.declared.LegalTexts.the-variants.{Nothing, Printable, Letters, CallSign, DigitOr, Within, Either, OneOf}
 use Rattle.text.proofs.Ways.{and-first, and-second}
 use Rattle.layout.specs.declared.Edition.{Edition}
 use Rattle.layout.specs.declared.Edition.the-variants.{One, Three, Four}
 use Rattle.layout.specs.Editions.{lastOf}
-use Rattle.layout.specs.Page.{Element, page, none, elements, element, textsOf}
+use Rattle.layout.specs.Page.{Element, page, none, elements, element, legalTexts}
 
-abbrev isNothing : Texts → Bool
+abbrev isNothing : LegalTexts → Bool
 isNothing Nothing = true
 isNothing Printable = false
 isNothing Letters = false
@@ -25,7 +25,7 @@ isNothing (Within a b) = false
 isNothing (Either a b c d) = false
 isNothing (OneOf a b c d) = false
 
-not-allowed : (s : Texts) → isNothing s ≡ true → (t : List ℕ) → allows s t ≡ false
+not-allowed : (s : LegalTexts) → isNothing s ≡ true → (t : List ℕ) → allows s t ≡ false
 unfolding allows
 not-allowed Nothing h t = refl
 not-allowed Printable h t = absurd (true≢false (sym h))
@@ -46,13 +46,13 @@ nothing-at [] h k = refl
 nothing-at (x ∷ l) h zero = and-first _ _ h
 nothing-at (x ∷ l) h (suc k) = nothing-at l (and-second (isNothing (x .in1)) _ h) k
 
-from-86 : (k : ℕ) → isNothing (textsOf One (86 + k)) ≡ true
+from-86 : (k : ℕ) → isNothing (legalTexts One (86 + k)) ≡ true
 unfolding element page
 from-86 k = ap (λ (x : Element). isNothing (x .in1)) (sym (getD-drop 86 elements k none)) ∙ nothing-at (drop 86 elements) refl k
 
-pub nothing-there : (ed : Edition) (e : ℕ) → lastOf ed < e → e ≤ 101 → (t : List ℕ) → allows (textsOf ed e) t ≡ false
+pub nothing-there : (ed : Edition) (e : ℕ) → lastOf ed < e → e ≤ 101 → (t : List ℕ) → allows (legalTexts ed e) t ≡ false
 nothing-there One e h l t =
     let split : e ≡ 86 + (e - 86) = omega arith in
-    not-allowed (textsOf One e) (ap (λ (n : ℕ). isNothing (textsOf One n)) split ∙ from-86 (e - 86)) t
+    not-allowed (legalTexts One e) (ap (λ (n : ℕ). isNothing (legalTexts One n)) split ∙ from-86 (e - 86)) t
 nothing-there Three e h l t = absurd (omega arith)
 nothing-there Four e h l t = absurd (omega arith)

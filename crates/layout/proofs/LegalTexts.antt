@@ -7,14 +7,14 @@ use native.Mathlib.Nat.{add-zero}
 use native.Mathlib.Omega.{arith}
 use lib.ListN.{getD, take, drop, replicate, getD-replicate, List·getD-eq-default}
 use lib.Seq.{getD-take, getD-drop}
-use Rattle.text.specs.declared.Texts.{Texts}
-use Rattle.text.specs.declared.Texts.the-variants.{Nothing}
+use Rattle.text.specs.declared.LegalTexts.{LegalTexts}
+use Rattle.text.specs.declared.LegalTexts.the-variants.{Nothing}
 use Rattle.layout.specs.declared.Edition.{Edition}
 use Rattle.layout.specs.declared.Edition.the-variants.{One, Three, Four}
-use Rattle.layout.specs.Page.{Element, flag, laterFlag, page, none, elements, element, inEdition, textsIn, textsOf}
+use Rattle.layout.specs.Page.{Element, flag, laterFlag, page, none, elements, element, inEdition, legalTextsIn, legalTexts}
 
 -- texts that are the same in all editions
-pub in-all : (ed : Edition) (s : Texts) → s ≡ inEdition ed s s s
+pub in-all : (ed : Edition) (s : LegalTexts) → s ≡ inEdition ed s s s
 in-all One s = refl
 in-all Three s = refl
 in-all Four s = refl
@@ -30,27 +30,27 @@ in-part k n e l h =
     getD-take n (drop k elements) (e - k) none (omega arith) ∙ getD-drop k elements (e - k) none ∙ ap (λ (i : ℕ). getD elements i none) place
 
 -- where antt computes that they are one and the same, each of them is that one
-module _ (ed : Edition) (e : ℕ) (r : Texts) where
-  run : (k n : ℕ) (x : Element) → part k n ≡ replicate n x → k ≤ e → e < k + n → r ≡ textsIn ed x → r ≡ textsOf ed e
+module _ (ed : Edition) (e : ℕ) (r : LegalTexts) where
+  run : (k n : ℕ) (x : Element) → part k n ≡ replicate n x → k ≤ e → e < k + n → r ≡ legalTextsIn ed x → r ≡ legalTexts ed e
   run k n x same l h g =
       let is : x ≡ element e = sym (getD-replicate n (e - k) x none (omega arith)) ∙ ap (λ (p : List Element). getD p (e - k) none) (sym same) ∙ in-part k n e l h in
-      g ∙ ap (textsIn ed) is
+      g ∙ ap (legalTextsIn ed) is
 
   -- elements 66 to 85 are flags, and 94 to 101 flags that edition 1 does not have
-  pub flags : 66 ≤ e → e < 86 → r ≡ textsIn ed flag → r ≡ textsOf ed e
+  pub flags : 66 ≤ e → e < 86 → r ≡ legalTextsIn ed flag → r ≡ legalTexts ed e
   unfolding page
   flags l h g = run 66 20 flag refl l h g
 
-  pub later-flags : 94 ≤ e → e < 102 → r ≡ textsIn ed laterFlag → r ≡ textsOf ed e
+  pub later-flags : 94 ≤ e → e < 102 → r ≡ legalTextsIn ed laterFlag → r ≡ legalTexts ed e
   unfolding page
   later-flags l h g = run 94 8 laterFlag refl l h g
 
 -- where there is no element there is nothing to write
-pub before-first : (ed : Edition) (e : ℕ) → e < 1 → Nothing ≡ textsOf ed e
+pub before-first : (ed : Edition) (e : ℕ) → e < 1 → Nothing ≡ legalTexts ed e
 unfolding element
 before-first ed e h = let is : e ≡ 0 = omega arith in rw is (in-all ed Nothing)
 
-pub past-last : (ed : Edition) (e : ℕ) → 102 ≤ e → Nothing ≡ textsOf ed e
+pub past-last : (ed : Edition) (e : ℕ) → 102 ≤ e → Nothing ≡ legalTexts ed e
 unfolding element page
 past-last ed e h = rw (List·getD-eq-default elements none h) (in-all ed Nothing)
 

@@ -4,7 +4,6 @@ pub mod Rows
 pub mod LegalTexts
 pub mod Elements
 pub mod Beyond
-pub mod RefusalLaws
 pub mod Demand2Columns
 pub mod Parts
 pub mod RecordLaws

@@ -1,5 +1,4 @@
 pub mod Editions
 pub mod Page
 pub mod Widths
-pub mod Refusals
 pub mod Records

@@ -6,27 +6,27 @@ use mathlib.Core.Bool.{Bool, not, _&&_, _||_}
 use lib.Dec.{eqb}
 use lib.ListN.{getD, take, drop}
 use Rattle.text.specs.Bytes.{blank}
-use Rattle.text.specs.Texts.{allows}
-use Rattle.text.specs.declared.Texts.{Texts}
-use Rattle.text.specs.declared.Texts.the-variants.{Nothing, Printable, Letters, CallSign, DigitOr, Within, Either, OneOf}
+use Rattle.text.specs.LegalTexts.{allows}
+use Rattle.text.specs.declared.LegalTexts.{LegalTexts}
+use Rattle.text.specs.declared.LegalTexts.the-variants.{Nothing, Printable, Letters, CallSign, DigitOr, Within, Either, OneOf}
 use Rattle.layout.specs.declared.Edition.{Edition}
 use Rattle.layout.specs.declared.Edition.the-variants.{One, Three, Four}
 
 -- an element's width, and its texts in each edition
 pub record Element : Type 0 where
   pub width : ℕ
-  pub in1 : Texts
-  pub in3 : Texts
-  pub in4 : Texts
+  pub in1 : LegalTexts
+  pub in3 : LegalTexts
+  pub in4 : LegalTexts
 
 -- an element whose texts go by the edition, are the same in all, or that edition 1 does not have
-abbrev pub differing : ℕ → Texts → Texts → Texts → Element
+abbrev pub differing : ℕ → LegalTexts → LegalTexts → LegalTexts → Element
 differing w s t u = record { width = w; in1 = s; in3 = t; in4 = u }
 
-abbrev pub alike : ℕ → Texts → Element
+abbrev pub alike : ℕ → LegalTexts → Element
 alike w s = differing w s s s
 
-abbrev pub later : ℕ → Texts → Texts → Element
+abbrev pub later : ℕ → LegalTexts → LegalTexts → Element
 later w t u = differing w Nothing t u
 
 -- a quality control flag: 0..5, 9; edition 4 also 6, 7
@@ -174,17 +174,17 @@ abbrev pub firstByte : ℕ → List ℕ → ℕ
 firstByte e xs = getD xs (startOf e) 0
 
 -- the texts of an edition, where s, t and u are those of the editions 1, 3 and 4
-abbrev pub inEdition : Edition → Texts → Texts → Texts → Texts
+abbrev pub inEdition : Edition → LegalTexts → LegalTexts → LegalTexts → LegalTexts
 inEdition One s t u = s
 inEdition Three s t u = t
 inEdition Four s t u = u
 
-abbrev pub textsIn : Edition → Element → Texts
-textsIn ed e = inEdition ed (e .in1) (e .in3) (e .in4)
+abbrev pub legalTextsIn : Edition → Element → LegalTexts
+legalTextsIn ed e = inEdition ed (e .in1) (e .in3) (e .in4)
 
 -- the legal texts of element e
-abbrev pub textsOf : Edition → ℕ → Texts
-textsOf ed e = textsIn ed (element e)
+abbrev pub legalTexts : Edition → ℕ → LegalTexts
+legalTexts ed e = legalTextsIn ed (element e)
 
 -- blank is always legal but in elements 1 and 65
 abbrev pub mayBeBlank : ℕ → Bool
@@ -192,7 +192,7 @@ mayBeBlank e = not (eqb e 1 || eqb e 65)
 
 -- the text t of element e is blank, where it may be, or legal
 abbrev pub legalText : Edition → ℕ → List ℕ → Bool
-legalText ed e t = (mayBeBlank e && blank t) || allows (textsOf ed e) t
+legalText ed e t = (mayBeBlank e && blank t) || allows (legalTexts ed e) t
 
 unfoldable pub legal : Edition → List ℕ → ℕ → Bool
 legal ed xs e = legalText ed e (textOf e xs)

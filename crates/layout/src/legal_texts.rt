@@ -3,20 +3,20 @@
 // `page` of specs/Page.antt is the page. Here it stands an element a line, as there, but for the
 // flags, which are alike. A glance tells most records; this is asked where it does not.
 use crate::Edition;
-use text::Texts;
-use text::Texts::CallSign;
-use text::Texts::DigitOr;
-use text::Texts::Either;
-use text::Texts::Letters;
-use text::Texts::Nothing;
-use text::Texts::OneOf;
-use text::Texts::Printable;
-use text::Texts::Within;
+use text::LegalTexts;
+use text::LegalTexts::CallSign;
+use text::LegalTexts::DigitOr;
+use text::LegalTexts::Either;
+use text::LegalTexts::Letters;
+use text::LegalTexts::Nothing;
+use text::LegalTexts::OneOf;
+use text::LegalTexts::Printable;
+use text::LegalTexts::Within;
 ghost use mathlib.Core.Path.{_≡_};
-ghost use Rattle.layout.specs.Page.{inEdition, textsOf};
+ghost use Rattle.layout.specs.Page.{inEdition, legalTexts};
 
 // Which of the three editions' texts are those of this one.
-fn in_edition(edition: Edition, in1: Texts, in3: Texts, in4: Texts) -> Texts
+fn in_edition(edition: Edition, in1: LegalTexts, in3: LegalTexts, in4: LegalTexts) -> LegalTexts
     ensures { λ r. ⌜ r ≡ inEdition edition in1 in3 in4 ⌝ }
 {
     match edition {
@@ -27,8 +27,8 @@ fn in_edition(edition: Edition, in1: Texts, in3: Texts, in4: Texts) -> Texts
 }
 
 // The legal texts of element e, but for the blank; there are none where the edition has no element e.
-pub fn texts_in(edition: Edition, e: usize) -> Texts
-    ensures { λ r. ⌜ r ≡ textsOf edition e ⌝ }
+pub fn legal_texts(edition: Edition, e: usize) -> LegalTexts
+    ensures { λ r. ⌜ r ≡ legalTexts edition e ⌝ }
 {
     match e {
         1 => Within(3, 5),

@@ -1,5 +1,4 @@
-// The three editions of the IMMT record: their lengths, the layout page, and what a call answers where
-// it refuses.
+// The three editions of the IMMT record: their lengths, and the layout page.
 //
 // The definitions of specs/ are the document; the functions here are what they compute.
 pub mod legal_texts;
@@ -8,7 +7,6 @@ pub mod widths;
 
 ghost use mathlib.Core.Path.{_≡_};
 ghost use Rattle.layout.specs.Editions.{editionOf, asked, editionNumber, lengthOf, lastOf};
-ghost use Rattle.layout.specs.Refusals.{numberOf, placeOf};
 
 pub enum Edition {
     One,
@@ -90,64 +88,6 @@ impl Edition {
             Edition::One => Edition::LAST_1,
             Edition::Three => Edition::LAST_3,
             Edition::Four => Edition::LAST_4,
-        }
-    }
-}
-
-// Why a call refuses, with the place where that goes by the input.
-pub enum Refusal {
-    // length neither 131 nor 159
-    Length,
-    // a byte outside 32..126; its lowest column
-    Unprintable(usize),
-    // column 1 not 3, 4, 5
-    Format,
-    // column 111 not 1, 3, 4
-    Version,
-    // length is not that edition's
-    EditionLength,
-    // an element neither blank nor legal; the lowest
-    Illegal(usize),
-    // a tie broken; the lowest
-    Broken(usize),
-    // edition asked for not 1, 3, 4
-    Unheld,
-    // lent buffer shorter than that edition
-    Room,
-}
-
-impl Refusal {
-    // The refusal's number in the table.
-    pub fn number(self) -> u64
-        ensures { λ r. ⌜ r ≡ numberOf self ⌝ }
-    {
-        match self {
-            Refusal::Length => 1,
-            Refusal::Unprintable(_) => 2,
-            Refusal::Format => 3,
-            Refusal::Version => 4,
-            Refusal::EditionLength => 5,
-            Refusal::Illegal(_) => 6,
-            Refusal::Broken(_) => 7,
-            Refusal::Unheld => 8,
-            Refusal::Room => 9,
-        }
-    }
-
-    // The place that goes with it.
-    pub fn place(self) -> u64
-        ensures { λ r. ⌜ r ≡ placeOf self ⌝ }
-    {
-        match self {
-            Refusal::Length => 0,
-            Refusal::Unprintable(column) => column as u64,
-            Refusal::Format => 1,
-            Refusal::Version => 111,
-            Refusal::EditionLength => 0,
-            Refusal::Illegal(element) => element as u64,
-            Refusal::Broken(tie) => tie as u64,
-            Refusal::Unheld => 0,
-            Refusal::Room => 0,
         }
     }
 }

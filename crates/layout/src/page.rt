@@ -53,7 +53,7 @@ fn is_legal(edition: Edition, e: usize, text: &[u8]) -> bool
     requires { ⌜ length (now text) ≤ 7 ⌝ }
     ensures { λ r. ⌜ r ≡ legalText edition e (now (text .entry)) ⌝ }
 {
-    is_missing(e, text) || text::is_one(legal_texts::texts_in(edition, e), text)
+    is_missing(e, text) || text::is_one(legal_texts::legal_texts(edition, e), text)
 }
 
 // The lowest element that is neither blank nor legal, or 0.

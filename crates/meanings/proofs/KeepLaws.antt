@@ -7,11 +7,11 @@ use native.Mathlib.Omega.{arith}
 use borrow.Author.Tests.{ne-eqb, eqb-true, eqb-false}
 use lib.Dec.{eqb}
 use Rattle.text.specs.Bytes.{blank}
-use Rattle.text.specs.Texts.{allows}
-use Rattle.text.specs.declared.Texts.{Texts}
+use Rattle.text.specs.LegalTexts.{allows}
+use Rattle.text.specs.declared.LegalTexts.{LegalTexts}
 use Rattle.text.proofs.Among.{neither-first, neither-second}
 use Rattle.layout.specs.declared.Edition.{Edition}
-use Rattle.layout.specs.Page.{textsOf, mayBeBlank, legalText}
+use Rattle.layout.specs.Page.{legalTexts, mayBeBlank, legalText}
 use Rattle.layout.proofs.Alike.{early-alike, added-alike}
 use Rattle.meanings.specs.declared.Sense.the-variants.{Alike}
 use Rattle.meanings.specs.Meaning.{hasSenses, senseOf, sameSense}
@@ -31,24 +31,24 @@ module _ (e : ℕ) (none : hasSenses e ≡ false) where
 -- whether a text is kept
 module _ (from to : Edition) (e : ℕ) (t : List ℕ) where
   -- what is blank, or one of the target's texts in the one sense that the element has, is not lost
-  in-texts : hasSenses e ≡ false → (blank t || allows (textsOf to e) t) ≡ true → lostText from to e t ≡ false
+  in-texts : hasSenses e ≡ false → (blank t || allows (legalTexts to e) t) ≡ true → lostText from to e t ≡ false
   unfolding lostText keeps
   in-texts none h = by (blank t) h
     where
-      kept-here : allows (textsOf to e) t ≡ true → (x y : Bool) → not (x || (y || (allows (textsOf to e) t && sameSense (senseOf from e t) (senseOf to e t)))) ≡ false
+      kept-here : allows (legalTexts to e) t ≡ true → (x y : Bool) → not (x || (y || (allows (legalTexts to e) t && sameSense (senseOf from e t) (senseOf to e t)))) ≡ false
       kept-here l true y = refl
       kept-here l false true = refl
       kept-here l false false = rw (l, always-same e none from to t)
 
-      by : (b : Bool) → (b || allows (textsOf to e) t) ≡ true → (not b && not (keeps from to e t)) ≡ false
+      by : (b : Bool) → (b || allows (legalTexts to e) t) ≡ true → (not b && not (keeps from to e t)) ≡ false
       by true l = refl
       by false l = kept-here l (eqb e 6) (eqb e 65)
 
   -- the same texts and one sense: what is legal in one edition is kept in the other
-  pub alike-kept : textsOf from e ≡ textsOf to e → hasSenses e ≡ false → legalText from e t ≡ true → lostText from to e t ≡ false
-  alike-kept same-texts none legal = in-texts none (by (mayBeBlank e) (blank t) (ap (λ (s : Texts). (mayBeBlank e && blank t) || allows s t) (sym same-texts) ∙ legal))
+  pub alike-kept : legalTexts from e ≡ legalTexts to e → hasSenses e ≡ false → legalText from e t ≡ true → lostText from to e t ≡ false
+  alike-kept same-texts none legal = in-texts none (by (mayBeBlank e) (blank t) (ap (λ (s : LegalTexts). (mayBeBlank e && blank t) || allows s t) (sym same-texts) ∙ legal))
     where
-      by : (m b : Bool) → ((m && b) || allows (textsOf to e) t) ≡ true → (b || allows (textsOf to e) t) ≡ true
+      by : (m b : Bool) → ((m && b) || allows (legalTexts to e) t) ≡ true → (b || allows (legalTexts to e) t) ≡ true
       by m true l = refl
       by true false l = l
       by false false l = l

@@ -4,7 +4,7 @@ use mathlib.Core.Bool.{Bool, cond, _||_}
 use mathlib.Core.List.{List}
 use lib.Dec.{eqb}
 use Rattle.text.specs.Bytes.{number}
-use Rattle.text.specs.Texts.{among}
+use Rattle.text.specs.LegalTexts.{among}
 use Rattle.layout.specs.declared.Edition.{Edition}
 use Rattle.layout.specs.declared.Edition.the-variants.{One, Three, Four}
 use Rattle.layout.specs.Page.{textOf}
@@ -27,23 +27,23 @@ use Rattle.meanings.specs.declared.Sense.the-variants.{
 }
 
 -- a code that editions 1 and 3 take in one sense and edition 4 in another
-abbrev pub inEdition : Edition → Sense → Sense → Sense
-inEdition One earlier later = earlier
-inEdition Three earlier later = earlier
-inEdition Four earlier later = later
+abbrev pub earlierOrLater : Edition → Sense → Sense → Sense
+earlierOrLater One earlier later = earlier
+earlierOrLater Three earlier later = earlier
+earlierOrLater Four earlier later = later
 
 -- column 70, codes 1 and 4: national, international logbook in 1, 3; paper, electronic in 4
 unfoldable pub sourceSense : Edition → ℕ → Sense
 sourceSense ed code =
-    cond (eqb code 1) (inEdition ed NationalLogbook PaperLogbook)
-    (cond (eqb code 4) (inEdition ed InternationalLogbook ElectronicLogbook)
+    cond (eqb code 1) (earlierOrLater ed NationalLogbook PaperLogbook)
+    (cond (eqb code 4) (earlierOrLater ed InternationalLogbook ElectronicLogbook)
     Alike)
 
 -- column 71, codes 4 and 9: automated station, others in 1, 3; VOSClim ship, others or data buoy in 4
 unfoldable pub platformSense : Edition → ℕ → Sense
 platformSense ed code =
-    cond (eqb code 4) (inEdition ed AutomatedStation VosclimShip)
-    (cond (eqb code 9) (inEdition ed Others OthersOrBuoy)
+    cond (eqb code 4) (earlierOrLater ed AutomatedStation VosclimShip)
+    (cond (eqb code 9) (earlierOrLater ed Others OthersOrBuoy)
     Alike)
 
 -- the country: numbers in 1 against letters in 3, 4

@@ -11,7 +11,7 @@ use Rattle.text.specs.Bytes.{every, between, printable, isDigit, blank, digits,
 use Rattle.text.proofs.Every.{every-at}
 use Rattle.text.proofs.Ranges.{least, greatest}
 use Rattle.text.proofs.Ways.{and-first, and-second}
-use Rattle.numerals.specs.Spelling.{spelled, spell, inDigits, inBytes, inBlanks}
+use Rattle.numerals.specs.Numerals.{spelled, spell, inDigits, inBytes, inBlanks}
 use Rattle.numerals.proofs.Spellings.{value-spelled}
 
 -- a byte from lo to hi is a digit of a base that has them

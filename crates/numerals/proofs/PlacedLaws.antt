@@ -6,7 +6,7 @@ use native.Mathlib.Nat.{add-zero}
 use native.Mathlib.Omega.{arith}
 use lib.ListN.{length, take, drop, length-append, length-drop, take-append-drop}
 use lib.Seq.{length-take-le, take-append-seam, take-at, drop-at, drop-drop}
-use Rattle.numerals.specs.Spelling.{placed}
+use Rattle.numerals.specs.Numerals.{placed}
 
 -- bytes placed in some others: what stands up to their end
 pub placed-to : (at : ℕ) (t before : List ℕ) → at ≤ length before → take (at + length t) (placed at t before) ≡ take at before ++ t

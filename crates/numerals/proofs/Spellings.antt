@@ -12,7 +12,7 @@ use lib.ListN.{length, getD, take, drop, set, length-append, take-append-drop}
 use lib.Seq.{take-suc, take-all, getD-take, take-set-le, set-split, length-take-le, drop-at}
 use Rattle.text.specs.Bytes.{every, between, blank, valueFrom}
 use Rattle.text.proofs.Ways.{and-first, and-second}
-use Rattle.numerals.specs.Spelling.{spelled, spell, inBlanks, placed}
+use Rattle.numerals.specs.Numerals.{spelled, spell, inBlanks, placed}
 
 module _ (base nought : ℕ) where
   -- a value goes on from where it stands

@@ -6,7 +6,7 @@ ghost use mathlib.Core.Path.{_≡_};
 ghost use Prim.Native.Nat.{_+_, _≤_, _<_};
 ghost use lib.ListN.{length};
 ghost use Rattle.text.specs.Bytes.{word};
-ghost use Rattle.numerals.specs.Spelling.{inDigits, inBytes, inBlanks, spell, placed};
+ghost use Rattle.numerals.specs.Numerals.{inDigits, inBytes, inBlanks, spell, placed};
 
 // A number, and the base and the nought that it is spelled with.
 pub struct Numeral {
@@ -50,13 +50,6 @@ impl Numeral {
     }
 }
 
-// A byte as a number.
-fn wide(b: u8) -> u64
-    ensures { λ r. ⌜ r ≡ b ⌝ }
-{
-    b as u64
-}
-
 // Up to seven bytes as one number, the first byte highest.
 pub fn word_of(text: &[u8]) -> u64
     requires { ⌜ length (now text) ≤ 7 ⌝ }
@@ -65,7 +58,7 @@ pub fn word_of(text: &[u8]) -> u64
     let mut n: u64 = 0;
     let mut i = 0;
     while i < text.len() {
-        n = n * 256 + wide(text[i]);
+        n = n * 256 + text::byte(text[i]);
         i += 1;
     }
     n

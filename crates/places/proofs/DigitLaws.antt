@@ -7,29 +7,29 @@ use native.Mathlib.Omega.{arith}
 use borrow.Author.Tests.{eq-eqb, le-leb}
 use Rattle.text.specs.First.{firstFrom}
 use Rattle.text.specs.Bytes.{either, every, digits, number, valueFrom}
-use Rattle.text.specs.Texts.{among, allows}
+use Rattle.text.specs.LegalTexts.{among, allows}
 use Rattle.text.proofs.First.{end, off, on}
 use Rattle.layout.specs.declared.Edition.{Edition}
 use Rattle.layout.specs.declared.Edition.the-variants.{One, Three, Four}
-use Rattle.layout.specs.Page.{element, page, textsOf}
+use Rattle.layout.specs.Page.{element, page, legalTexts}
 use Rattle.signs.specs.Signed.{signed, sameSigned}
 use Rattle.places.specs.declared.Place.{Place}
 use Rattle.places.specs.Places.{south, west, placeAt}
 use Rattle.places.specs.Digits.{onePlace, samePlace, keepsTie, mayStand, isFirst, crosses, suits, lowestDigit}
 
 -- which digits may stand in column 12: octants in edition 1, quadrants in the others
-abbrev pub stands : Edition → ℕ → Bool
-stands One = either 0 3 5 8
-stands Three = among 1 3 5 7
-stands Four = among 1 3 5 7
+abbrev pub isDigitOf : Edition → ℕ → Bool
+isDigitOf One = either 0 3 5 8
+isDigitOf Three = among 1 3 5 7
+isDigitOf Four = among 1 3 5 7
 
-pub column-texts : (ed : Edition) (t : List ℕ) → allows (textsOf ed 6) t ≡ (digits t && stands ed (number t))
+pub column-texts : (ed : Edition) (t : List ℕ) → allows (legalTexts ed 6) t ≡ (digits t && isDigitOf ed (number t))
 unfolding element page allows
 column-texts One t = refl
 column-texts Three t = refl
 column-texts Four t = refl
 
-pub digit-stands : (ed : Edition) (digit : ℕ) → digit ≤ 9 → mayStand ed digit ≡ stands ed digit
+pub digit-stands : (ed : Edition) (digit : ℕ) → digit ≤ 9 → mayStand ed digit ≡ isDigitOf ed digit
 unfolding every valueFrom
 digit-stands ed digit h =
     let said : 0 * 10 + (48 + digit - 48) ≡ digit = omega arith in
@@ -100,9 +100,9 @@ pub alike-places : (d la lo : ℕ) (from to : Edition) → crosses from to ≡ f
 unfolding placeAt south west
 alike-places d la lo = not-crossed (λ from to. placeAt to d la lo ≡ placeAt from d la lo) refl refl refl refl refl
 
-pub same-digits : (from to : Edition) → crosses from to ≡ false → textsOf from 6 ≡ textsOf to 6
+pub same-digits : (from to : Edition) → crosses from to ≡ false → legalTexts from 6 ≡ legalTexts to 6
 unfolding element page
-same-digits = not-crossed (λ from to. textsOf from 6 ≡ textsOf to 6) refl refl refl refl refl
+same-digits = not-crossed (λ from to. legalTexts from 6 ≡ legalTexts to 6) refl refl refl refl refl
 
 -- the loop over the characters '0' to '9': none before b suits; b says the digit k, and x is what the code found of k
 module _ (from to : Edition) (d latitude longitude : ℕ) where

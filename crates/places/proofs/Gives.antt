@@ -6,7 +6,7 @@ use native.Mathlib.Omega.{arith}
 use borrow.Author.Tests.{le-leb, leb-false}
 use lib.Dec.{leb, lit≤}
 use Rattle.text.specs.Bytes.{every, valueFrom}
-use Rattle.text.specs.Texts.{allows}
+use Rattle.text.specs.LegalTexts.{allows}
 use Rattle.layout.specs.declared.Edition.{Edition}
 use Rattle.layout.specs.declared.Edition.the-variants.{One, Three, Four}
 use Rattle.layout.specs.Page.{element, page}

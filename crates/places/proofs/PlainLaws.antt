@@ -7,7 +7,7 @@ use borrow.Author.Tests.{eq-eqb, ne-eqb, eqb-true, le-leb, lt-leb, ltb-true, ltb
 use lib.Dec.{eqb, leb, ltb}
 use Rattle.text.specs.Bytes.{every, valueFrom}
 use Rattle.text.specs.First.{firstFrom}
-use Rattle.text.specs.Texts.{among, allows}
+use Rattle.text.specs.LegalTexts.{among, allows}
 use Rattle.text.proofs.Below.{passes-below}
 use Rattle.text.proofs.First.{same-first}
 use Rattle.text.proofs.Ways.{imply}

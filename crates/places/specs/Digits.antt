@@ -4,10 +4,10 @@ use mathlib.Core.Bool.{Bool, true, false, not, _&&_, Bool·beq}
 use mathlib.Core.List.{[], _∷_}
 use lib.Dec.{eqb}
 use Rattle.text.specs.First.{firstFrom}
-use Rattle.text.specs.Texts.{allows}
+use Rattle.text.specs.LegalTexts.{allows}
 use Rattle.layout.specs.declared.Edition.{Edition}
 use Rattle.layout.specs.declared.Edition.the-variants.{One, Three, Four}
-use Rattle.layout.specs.Page.{textsOf}
+use Rattle.layout.specs.Page.{legalTexts}
 use Rattle.signs.specs.Signed.{sameSigned}
 use Rattle.places.specs.declared.Place.{Place}
 use Rattle.places.specs.Places.{octantFits, placeAt}
@@ -28,7 +28,7 @@ keepsTie Four digit longitude = true
 
 -- digit c may stand in column 12 of the edition `to`, gives the same place as digit d of the edition `from`, and keeps tie 2
 abbrev pub mayStand : Edition → ℕ → Bool
-mayStand ed digit = allows (textsOf ed 6) ((48 + digit) ∷ [])
+mayStand ed digit = allows (legalTexts ed 6) ((48 + digit) ∷ [])
 
 unfoldable pub suits : Edition → Edition → ℕ → ℕ → ℕ → ℕ → Bool
 suits from to d latitude longitude c = mayStand to c && (samePlace from d to c latitude longitude && keepsTie to c longitude)

@@ -61,13 +61,6 @@ pub fn octant_fits(octant: u32, longitude: u32) -> bool
     }
 }
 
-// The same number, as wide as those of a place are.
-fn wide(n: u32) -> u64
-    ensures { λ r. ⌜ r ≡ n ⌝ }
-{
-    n as u64
-}
-
 // Hundredths of a degree in a tenth: the columns count tenths, and a place hundredths.
 const UNIT: u64 = 10;
 
@@ -79,7 +72,7 @@ fn hundredths_of(tenths: u32) -> u64
     ensures { λ r. ⌜ r ≡ hundredths tenths ⌝ }
     ensures { λ r. ⌜ r < 2 ^ 63 ⌝ }
 {
-    wide(tenths) * UNIT
+    text::wide(tenths) * UNIT
 }
 
 // The whole tenths in so many hundredths.
@@ -109,7 +102,7 @@ pub fn place_at(edition: Edition, digit: u32, latitude: u32, longitude: u32) -> 
     Place {
         latitude: signs::signed_of(is_south(edition, digit), hundredths_of(latitude)),
         longitude: east_of(is_west(edition, digit), hundredths_of(longitude)),
-        digit: wide(digit),
+        digit: text::wide(digit),
     }
 }
 

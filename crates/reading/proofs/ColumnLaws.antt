@@ -9,7 +9,7 @@ use borrow.Author.Tests.{ne-eqb, eq-eqb, eqb-true, not-true}
 use lib.Dec.{eqb, lit<}
 use lib.ListN.{length}
 use Rattle.text.specs.Bytes.{every, between, digits, valueFrom, number, word}
-use Rattle.text.specs.Texts.{among}
+use Rattle.text.specs.LegalTexts.{among}
 use Rattle.text.proofs.Below.{everyBelow, passes-below}
 use Rattle.text.proofs.Blanks.{not-blank}
 use Rattle.text.proofs.Ways.{and-first, and-second, beq-true, imply}

@@ -7,10 +7,10 @@ use mathlib.Core.List.{List}
 use Prim.Native.Nat.{ℕ, _+_, _-_, _<_, _≤_}
 use native.Mathlib.Omega.{arith}
 use lib.Dec.{lit≤}
-use Rattle.text.specs.Texts.{among}
+use Rattle.text.specs.LegalTexts.{among}
 use Rattle.text.proofs.Among.{among-cases, not-first, not-second, not-third, not-fourth}
 use Rattle.layout.specs.declared.Edition.{Edition}
-use Rattle.layout.specs.declared.Refusal.{Refusal}
+use Rattle.refusals.specs.declared.Refusal.{Refusal}
 use Rattle.layout.specs.Editions.{lastOf}
 use Rattle.layout.specs.Page.{textOf}
 use Rattle.checking.specs.declared.Answer.the-variants.{Accepted, Refused}

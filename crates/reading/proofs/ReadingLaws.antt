@@ -11,7 +11,7 @@ use lib.Dec.{eqb, leb, lit≤}
 use lib.IntN.{ℤ}
 use lib.ListN.{length}
 use Rattle.text.specs.Bytes.{every, blank, digits, number, word}
-use Rattle.text.specs.Texts.{among}
+use Rattle.text.specs.LegalTexts.{among}
 use Rattle.text.proofs.Among.{among-cases, neither-first, neither-second}
 use Rattle.text.proofs.Ways.{decide}
 use Rattle.layout.specs.declared.Edition.{Edition}

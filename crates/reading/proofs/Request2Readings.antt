@@ -7,8 +7,8 @@ use native.Mathlib.Omega.{arith}
 use lib.Dec.{lit≤}
 use lib.IntN.{natAbs}
 use Rattle.text.specs.Bytes.{blank, number}
-use Rattle.text.specs.declared.Texts.the-variants.{Within}
-use Rattle.text.specs.Texts.{among}
+use Rattle.text.specs.declared.LegalTexts.the-variants.{Within}
+use Rattle.text.specs.LegalTexts.{among}
 use Rattle.layout.specs.declared.Edition.{Edition}
 use Rattle.layout.specs.Page.{element, page, textOf}
 use Rattle.layout.proofs.Beyond.{last-above}

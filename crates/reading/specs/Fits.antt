@@ -4,7 +4,7 @@ use mathlib.Core.Path.{_≡_}
 use mathlib.Core.List.{List}
 use lib.ListN.{length}
 use Rattle.layout.specs.declared.Edition.{Edition}
-use Rattle.layout.specs.declared.Refusal.{Refusal}
+use Rattle.refusals.specs.declared.Refusal.{Refusal}
 use Rattle.checking.specs.declared.Answer.the-variants.{Accepted, Refused}
 use Rattle.checking.specs.Acceptable as Checking
 use Rattle.reading.specs.declared.Reading.the-variants.{Missing}

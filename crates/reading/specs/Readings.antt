@@ -4,7 +4,7 @@ use mathlib.Core.List.{List}
 use mathlib.Core.Bool.{Bool, cond, not, _&&_, _||_}
 use lib.Dec.{eqb, leb}
 use Rattle.text.specs.Bytes.{blank, digits, number, word}
-use Rattle.text.specs.Texts.{among}
+use Rattle.text.specs.LegalTexts.{among}
 use Rattle.layout.specs.declared.Edition.{Edition}
 use Rattle.layout.specs.Page.{textOf}
 use Rattle.places.specs.Places.{placeAt}

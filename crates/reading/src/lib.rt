@@ -15,7 +15,7 @@ ghost use mathlib.Core.List.{[], _∷_};
 ghost use Prim.Native.Nat.{_≤_};
 ghost use lib.Dec.{eqb};
 ghost use lib.ListN.{length};
-ghost use Rattle.text.specs.Texts.{among};
+ghost use Rattle.text.specs.LegalTexts.{among};
 ghost use Rattle.layout.specs.declared.Edition.{Edition};
 ghost use Rattle.layout.specs.Editions.{lengthOf};
 ghost use Rattle.layout.specs.Page.{startOf, widthOf};
@@ -50,13 +50,6 @@ pub struct Readings {
     pub entries: [Entry; 101],
 }
 
-// The same number, wider.
-fn wide(n: u32) -> u64
-    ensures { λ r. ⌜ r ≡ n ⌝ }
-{
-    n as u64
-}
-
 // Does the element always read as a text?
 fn is_always_text(e: usize) -> bool
     ensures { λ r. ⌜ r ≡ alwaysText e ⌝ }
@@ -74,12 +67,12 @@ fn code_of(e: usize, n: u32) -> u64
     ensures { λ r. ⌜ r ≡ codeOf e n ⌝ }
 {
     if e != 20 {
-        return wide(n);
+        return text::wide(n);
     }
     if n <= 999 {
-        return wide(n) + 10000;
+        return text::wide(n) + 10000;
     }
-    wide(n)
+    text::wide(n)
 }
 
 // The reading of an element by itself.
@@ -105,7 +98,7 @@ fn column_of(b: u8) -> Reading
     ensures { λ r. ⌜ r ≡ plain 1 (b ∷ []) ⌝ }
 {
     let other = strays(b, b'0', b'9');
-    let code = wide(text::digit_of(b));
+    let code = text::wide(text::digit_of(b));
     let letter = b as u64;
     if b == 32 {
         return Reading::Missing;
@@ -146,7 +139,7 @@ fn temperature_of(sign: &[u8], value: &[u8]) -> Reading
     let s = text::number_of(sign);
     let is_below = text::is_among(s, 1, 2, 6, 7);
     Reading::Amount(
-        signs::signed_of(is_below, wide(text::number_of(value))),
+        signs::signed_of(is_below, text::wide(text::number_of(value))),
         kind_of(s),
     )
 }
@@ -160,7 +153,10 @@ fn departure_of(text: &[u8]) -> Reading
         return Reading::Missing;
     }
     let n = text::number_of(text);
-    Reading::Amount(signs::signed_of(100 <= n, wide(n % 100)), Kind::Measured)
+    Reading::Amount(
+        signs::signed_of(100 <= n, text::wide(n % 100)),
+        Kind::Measured,
+    )
 }
 
 // The reading of column 12, latitude and longitude.

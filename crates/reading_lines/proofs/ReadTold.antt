@@ -5,9 +5,10 @@ use mathlib.Core.List.{List}
 use Prim.Native.Nat.{ℕ, _+_, _<_, _≤_}
 use lib.ListN.{length}
 use Rattle.layout.specs.declared.Edition.{Edition}
-use Rattle.layout.specs.declared.Refusal.{Refusal}
-use Rattle.layout.specs.declared.Refusal.the-variants.{Length}
+use Rattle.refusals.specs.declared.Refusal.{Refusal}
+use Rattle.refusals.specs.declared.Refusal.the-variants.{Length}
 use Rattle.layout.specs.Editions.{lengthOf}
+use Rattle.checking.specs.Check.{answerVerdict}
 use Rattle.checking.specs.declared.Answer.{Answer}
 use Rattle.checking.specs.declared.Answer.the-variants.{Accepted, Refused}
 use Rattle.checking.proofs.CheckLaws.{too-long}
@@ -16,7 +17,8 @@ use Rattle.reading.specs.declared.Readings.{Readings}
 use Rattle.reading.specs.Answers.{readAfter, readOf, readings}
 use Rattle.reading.proofs.Request6Readings.{checks}
 use Rattle.wording.specs.Puts.{Puts}
-use Rattle.report_lines.specs.Sentences.{refusedLine, isRefused}
+use Rattle.report_lines.specs.Sentences.{refusedLine}
+use Rattle.refusals.specs.Verdicts.{isRefused}
 use Rattle.report_lines.specs.Says.{recordMost, Says}
 use Rattle.reading_lines.specs.Sentences.{readText, readSaid, readRefused}
 
@@ -42,4 +44,4 @@ module _ (line : List ℕ) (long : 159 < length line) where
 
   pub long-refused : readRefused line ≡ true
   unfolding readAfter
-  long-refused = ap (λ (a : Answer). isRefused (readAfter a line .answer)) (too-long line long)
+  long-refused = ap (λ (a : Answer). isRefused (answerVerdict (readAfter a line .answer))) (too-long line long)

@@ -9,7 +9,7 @@ use Rattle.layout.specs.Editions.{editionNumber}
 use Rattle.places.specs.declared.Place.{Place}
 use Rattle.checking.specs.declared.Answer.{Answer}
 use Rattle.checking.specs.declared.Answer.the-variants.{Accepted, Refused}
-use Rattle.checking.specs.Check.{callSignOf}
+use Rattle.checking.specs.Check.{answerVerdict, callSignOf}
 use Rattle.reading.specs.declared.Kind.{Kind}
 use Rattle.reading.specs.declared.Kind.the-variants.{Measured, Computed, IcedMeasured, IcedComputed}
 use Rattle.reading.specs.declared.Entry.{Entry}
@@ -17,12 +17,11 @@ use Rattle.reading.specs.declared.Reading.{Reading}
 use Rattle.reading.specs.declared.Reading.the-variants.{Missing, Code, Text, Amount, At}
 use Rattle.reading.specs.declared.Readings.{Readings}
 use Rattle.reading.specs.Answers.{readOf, readings}
-use Rattle.spelling.specs.Spelled.{recordOf}
-use Rattle.writing.specs.declared.Outcome.{Outcome}
-use Rattle.writing.specs.declared.Outcome.the-variants.{Done, Unwritten}
+use Rattle.refusals.specs.Lent.{Call, refusing, writing, Quiet, inRoom}
 use Rattle.writing.specs.Written.{written}
 use Rattle.wording.specs.Wording.{decimal, signedDecimal, numbered, lineEnd}
-use Rattle.report_lines.specs.Sentences.{refusedLine, acceptedLine, callSignLine, isRefused}
+use Rattle.refusals.specs.Verdicts.{isRefused}
+use Rattle.report_lines.specs.Sentences.{refusedLine, acceptedLine, callSignLine}
 
 -- how an amount was come by
 unfoldable pub kindWords : Kind → List ℕ
@@ -55,13 +54,13 @@ sameText [] (b ∷ ys) = false
 sameText (a ∷ xs) [] = false
 sameText (a ∷ xs) (b ∷ ys) = eqb a b && sameText xs ys
 
--- writing the readings, to the record's own edition, gives the record
-unfoldable pub givesBack : Outcome → List ℕ → List ℕ → Bool
-givesBack Done text line = sameText text line
-givesBack (Unwritten r) text line = false
+-- writing the readings, to the record's own edition and with room for any record, gives the record
+unfoldable pub givesBack : Call Quiet → List ℕ → Bool
+givesBack (writing q text) line = sameText text line
+givesBack (refusing r) line = false
 
 abbrev pub writtenBack : Edition → List Reading → List ℕ → Bool
-writtenBack edition rs line = givesBack (written rs (editionNumber edition) 159) (recordOf edition rs) line
+writtenBack edition rs line = givesBack (inRoom 159 (written rs (editionNumber edition))) line
 
 unfoldable pub writtenLine : ℕ → Bool → List ℕ
 writtenLine n same = decimal n ++ cond same (bytesOf " written same\n") (bytesOf " written other\n")
@@ -77,4 +76,4 @@ abbrev pub readSaid : ℕ → List ℕ → List ℕ
 readSaid n line = readText n line (readOf line .answer) (readings (readOf line .entries))
 
 abbrev pub readRefused : List ℕ → Bool
-readRefused line = isRefused (readOf line .answer)
+readRefused line = isRefused (answerVerdict (readOf line .answer))

@@ -5,12 +5,12 @@ use places::Place;
 use reading::Entry;
 use reading::Kind;
 use reading::Reading;
+use refusals::Verdict;
 use report_lines::Said;
 use wording::put_number;
 use wording::put_numbered;
 use wording::put_signed;
 use wording::put_text;
-use writing::Outcome;
 ghost use Prim.Native.Nat.{_+_, _≤_};
 ghost use mathlib.Core.List.{_++_};
 ghost use mathlib.Core.Path.{_≡_};
@@ -153,8 +153,8 @@ fn is_written_back(edition: Edition, entries: [Entry; 101], line: &[u8]) -> bool
     let mut buffer = [0u8; 159];
     let length = edition.length();
     match writing::write(entries, edition.number(), &mut buffer) {
-        Outcome::Done => is_same(&buffer[..length], line),
-        Outcome::Unwritten(_) => false,
+        Verdict::Fine => is_same(&buffer[..length], line),
+        Verdict::Refused(_) => false,
     }
 }
 

@@ -13,9 +13,9 @@ use Rattle.text.specs.Bytes.{bytesOf}
 use Rattle.wording.specs.Wording.{decimal, numbered}
 use Rattle.wording.specs.Puts.{Puts}
 use Rattle.wording.proofs.WordingLaws.{small-number}
-use Rattle.losses.specs.declared.Losses.{Losses}
-use Rattle.losses.specs.Losses.{elementsOf}
-use Rattle.losses.proofs.WordElements.{elements-of-none, elements-within, lowest-first, set-by-words}
+use Rattle.element_sets.specs.declared.ElementSet.{ElementSet}
+use Rattle.element_sets.specs.ElementSets.{elementsIn}
+use Rattle.element_sets.proofs.WordElements.{elements-of-none, elements-within, lowest-first, set-by-words}
 use Rattle.recast_lines.specs.Sentences.{numbers, lost}
 
 -- numbers, and then others
@@ -25,10 +25,10 @@ numbers-append [] ys = refl
 numbers-append (x ∷ xs) ys = ap (λ (t : List ℕ). numbered (bytesOf " ") x ++ t) (numbers-append xs ys) ∙ sym (append-assoc (numbered (bytesOf " ") x) (numbers xs) (numbers ys))
 
 -- an element takes up four bytes at most
-numbers-short : (k n w : ℕ) → k + n ≤ 1000 → length (numbers (elementsOf k n w)) ≤ 4 * n
-unfolding elementsOf numbers bytesOf
+numbers-short : (k n w : ℕ) → k + n ≤ 1000 → length (numbers (elementsIn k n w)) ≤ 4 * n
+unfolding elementsIn numbers bytesOf
 numbers-short k zero w h = omega arith
-numbers-short k (suc n) w h = by (eqb (w % 2) 1) (elementsOf (suc k) n (w / 2)) (numbers-short (suc k) n (w / 2) (omega arith))
+numbers-short k (suc n) w h = by (eqb (w % 2) 1) (elementsIn (suc k) n (w / 2)) (numbers-short (suc k) n (w / 2) (omega arith))
   where
     by : (x : Bool) (xs : List ℕ) → length (numbers xs) ≤ 4 * n → length (numbers (cond x (k ∷ xs) xs)) ≤ 4 * suc n
     by true xs l = omega (arith, length-append (numbered (bytesOf " ") k) (numbers xs), length-append (bytesOf " ") (decimal k), small-number k (omega arith))
@@ -36,7 +36,7 @@ numbers-short k (suc n) w h = by (eqb (w % 2) 1) (elementsOf (suc k) n (w / 2)) 
 
 -- the elements of a word: the lowest, and then those of the word without its lowest bit
 abbrev pub told : ℕ → ℕ → List ℕ
-told first w = numbers (elementsOf first 64 w)
+told first w = numbers (elementsIn first 64 w)
 
 module _ (first w : ℕ) where
   pub told-none : w ≡ 0 → told first w ≡ []
@@ -56,8 +56,8 @@ module _ (first w : ℕ) where
   module _ (n m : ℕ) (e : n + m ≡ 64) (below : w < 2 ^ n) (low : first ≤ 65) where
     told-short : length (told first w) ≤ 4 * n
     told-short =
-        let few : told first w ≡ numbers (elementsOf first n w) =
-        ap₂ (λ (x y : ℕ). numbers (elementsOf first x y)) (sym e) (sym (mod-eq-of-lt below)) ∙ ap numbers (elements-within first n m w) in
+        let few : told first w ≡ numbers (elementsIn first n w) =
+        ap₂ (λ (x y : ℕ). numbers (elementsIn first x y)) (sym e) (sym (mod-eq-of-lt below)) ∙ ap numbers (elements-within first n m w) in
         omega (arith, ap length few, numbers-short first n w (omega arith))
 
     pub told-room : (at long : ℕ) → at + (4 * n + 20) ≤ long → (at + length (told first w) + 20 ≤ long) × (first ≤ 65)
@@ -67,5 +67,5 @@ module _ (first w : ℕ) where
     told-end {at} {end} p = omega (arith, told-short, p .ends)
 
 -- the elements of a set: those of its first word, and then those of the 37 bits of its second that are elements'
-pub lost-by-words : (s : Losses) → lost s ≡ told 1 (s .low) ++ told 65 (s .high % 2 ^ 37)
-lost-by-words s = ap numbers (set-by-words s) ∙ numbers-append (elementsOf 1 64 (s .low)) (elementsOf 65 64 (s .high % 2 ^ 37))
+pub lost-by-words : (s : ElementSet) → lost s ≡ told 1 (s .low) ++ told 65 (s .high % 2 ^ 37)
+lost-by-words s = ap numbers (set-by-words s) ∙ numbers-append (elementsIn 1 64 (s .low)) (elementsIn 65 64 (s .high % 2 ^ 37))

@@ -1,15 +1,17 @@
 -- The lines that the recast report alone has, in words, and what it says of a record. Assumes nothing.
 use Prim.Native.Nat.{ℕ}
-use mathlib.Core.Bool.{Bool, true, false}
+use mathlib.Core.Bool.{Bool}
 use mathlib.Core.List.{List, [], _∷_, _++_}
 use Rattle.text.specs.Bytes.{bytesOf}
 use Rattle.layout.specs.declared.Edition.{Edition}
 use Rattle.layout.specs.Editions.{editionNumber}
-use Rattle.losses.specs.declared.Losses.{Losses}
-use Rattle.losses.specs.Losses.{elements, countOf, hasLoss}
+use Rattle.element_sets.specs.declared.ElementSet.{ElementSet}
+use Rattle.element_sets.specs.ElementSets.{passing, countOf, hasElement}
 use Rattle.recasting.specs.declared.Outcome.{Outcome}
-use Rattle.recasting.specs.declared.Outcome.the-variants.{Done, Unrecast}
-use Rattle.recasting.specs.Recast.{recastOf}
+use Rattle.refusals.specs.declared.Verdict.{Verdict}
+use Rattle.refusals.specs.declared.Verdict.the-variants.{Fine, Refused}
+use Rattle.refusals.specs.Verdicts.{isRefused}
+use Rattle.recasting.specs.Recast.{recastOf, outcomeIn}
 use Rattle.wording.specs.Wording.{decimal, numbered, lineEnd}
 use Rattle.report_lines.specs.Sentences.{refusedLine}
 
@@ -27,24 +29,23 @@ numbers [] = []
 numbers (n ∷ ns) = numbered (bytesOf " ") n ++ numbers ns
 
 -- the elements that are lost, rising
-abbrev pub lost : Losses → List ℕ
-lost l = numbers (elements (hasLoss l) 1 101)
+abbrev pub lost : ElementSet → List ℕ
+lost l = numbers (passing (hasElement l) 1 101)
 
 -- the line of a record: its count, then 'ok', how many elements are lost and which; or 'refused', number and place
-unfoldable pub recastLine : ℕ → Outcome → List ℕ
-recastLine n (Done l) = decimal n ++ numbered (bytesOf " ok ") (countOf l) ++ lost l ++ lineEnd
-recastLine n (Unrecast r) = refusedLine n r
+unfoldable pub lineOf : ℕ → Verdict → ElementSet → List ℕ
+lineOf n Fine l = decimal n ++ numbered (bytesOf " ok ") (countOf l) ++ lost l ++ lineEnd
+lineOf n (Refused r) l = refusedLine n r
 
--- the outcome of a record; and what is said of it, and whether it is refused
-abbrev pub outcomeOf : Edition → List ℕ → Outcome
-outcomeOf edition line = recastOf line (editionNumber edition) 159
+abbrev pub recastLine : ℕ → Outcome → List ℕ
+recastLine n o = lineOf n (o .verdict) (o .losses)
+
+-- the outcome of a record, with room for any; and what is said of it, and whether it is refused
+abbrev pub outcomeFor : Edition → List ℕ → Outcome
+outcomeFor edition line = outcomeIn 159 (recastOf line (editionNumber edition))
 
 abbrev pub recastSaid : Edition → ℕ → List ℕ → List ℕ
-recastSaid edition n line = recastLine n (outcomeOf edition line)
-
-abbrev pub unrecast : Outcome → Bool
-unrecast (Done l) = false
-unrecast (Unrecast r) = true
+recastSaid edition n line = recastLine n (outcomeFor edition line)
 
 abbrev pub recastRefused : Edition → List ℕ → Bool
-recastRefused edition line = unrecast (outcomeOf edition line)
+recastRefused edition line = isRefused (outcomeFor edition line .verdict)

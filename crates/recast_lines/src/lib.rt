@@ -1,18 +1,20 @@
 // The lines of the recast report, put into a lent buffer.
+use element_sets::ElementSet;
 use layout::Edition;
-use losses::Losses;
 use recasting::Outcome;
+use refusals::Verdict;
 use report_lines::Said;
 use wording::put_number;
 use wording::put_numbered;
 use wording::put_text;
 ghost use Prim.Native.Nat.{_+_, _≤_};
 ghost use lib.ListN.{length};
-ghost use Rattle.losses.specs.Losses.{elementsOf};
-ghost use Rattle.recasting.specs.declared.Outcome.the-variants.{Done};
+ghost use Rattle.element_sets.specs.ElementSets.{elementsIn};
+ghost use Rattle.refusals.specs.declared.Verdict.the-variants.{Fine};
+ghost use Rattle.refusals.specs.Verdicts.{isRefused};
 ghost use Rattle.wording.specs.Puts.{Puts};
 ghost use Rattle.report_lines.specs.Says.{lineMost, recordMost, Says};
-ghost use Rattle.recast_lines.specs.Sentences.{heading, notHeld, numbers, lost, recastLine, recastSaid, recastRefused, unrecast};
+ghost use Rattle.recast_lines.specs.Sentences.{heading, notHeld, numbers, lost, lineOf, recastLine, recastSaid, recastRefused};
 
 // Puts the first line of a report.
 pub fn put_heading(out: &mut [u8], at: usize, edition: Edition) -> usize
@@ -36,8 +38,8 @@ pub fn put_not_held(out: &mut [u8], at: usize) -> usize
 // Puts the elements of a word of the set, rising: each is the lowest bit of those that are left. Bit 0 is
 // element `first`.
 fn put_word(out: &mut [u8], at: usize, word: u64, first: u64) -> usize
-    requires { ⌜ (at + length (numbers (elementsOf first 64 word)) + 20 ≤ length (now out)) × (first ≤ 65) ⌝ }
-    ensures { λ r. ⌜ Puts (numbers (elementsOf first 64 word)) at (now (out .entry)) (now (out .exit)) r ⌝ }
+    requires { ⌜ (at + length (numbers (elementsIn first 64 word)) + 20 ≤ length (now out)) × (first ≤ 65) ⌝ }
+    ensures { λ r. ⌜ Puts (numbers (elementsIn first 64 word)) at (now (out .entry)) (now (out .exit)) r ⌝ }
 {
     let mut end = at;
     let mut left = word;
@@ -50,7 +52,7 @@ fn put_word(out: &mut [u8], at: usize, word: u64, first: u64) -> usize
 }
 
 // Puts the elements lost, rising. The second word has 37 of them, 65 to 101: a bit above is no element's.
-fn put_lost(out: &mut [u8], at: usize, losses: Losses) -> usize
+fn put_lost(out: &mut [u8], at: usize, losses: ElementSet) -> usize
     requires { ⌜ at + 425 ≤ length (now out) ⌝ }
     ensures { λ r. ⌜ Puts (lost losses) at (now (out .entry)) (now (out .exit)) r ⌝ }
     ensures { λ r. ⌜ r ≤ at + 404 ⌝ }
@@ -60,9 +62,9 @@ fn put_lost(out: &mut [u8], at: usize, losses: Losses) -> usize
 }
 
 // Puts the line of a record that is recast.
-fn put_done(out: &mut [u8], at: usize, count: u64, losses: Losses) -> usize
+fn put_done(out: &mut [u8], at: usize, count: u64, losses: ElementSet) -> usize
     requires { ⌜ at + recordMost ≤ length (now out) ⌝ }
-    ensures { λ r. ⌜ Puts (recastLine count (Done losses)) at (now (out .entry)) (now (out .exit)) r ⌝ }
+    ensures { λ r. ⌜ Puts (lineOf count Fine losses) at (now (out .entry)) (now (out .exit)) r ⌝ }
     ensures { λ r. ⌜ r ≤ at + recordMost ⌝ }
 {
     let number = losses.count();
@@ -75,14 +77,16 @@ fn put_done(out: &mut [u8], at: usize, count: u64, losses: Losses) -> usize
 // Puts the line of a record from its count and its outcome.
 fn put_outcome(out: &mut [u8], at: usize, count: u64, outcome: Outcome) -> Said
     requires { ⌜ at + recordMost ≤ length (now out) ⌝ }
-    ensures { λ r. ⌜ Says (recastLine count outcome) (unrecast outcome) at (now (out .entry)) (now (out .exit)) r ⌝ }
+    ensures { λ r. ⌜ Says (recastLine count outcome) (isRefused (outcome .verdict)) at (now (out .entry)) (now (out .exit)) r ⌝ }
 {
-    match outcome {
-        Outcome::Done(losses) => Said {
+    let verdict = outcome.verdict;
+    let losses = outcome.losses;
+    match verdict {
+        Verdict::Fine => Said {
             end: put_done(out, at, count, losses),
             refused: false,
         },
-        Outcome::Unrecast(refusal) => Said {
+        Verdict::Refused(refusal) => Said {
             end: report_lines::put_refused(out, at, count, refusal),
             refused: true,
         },

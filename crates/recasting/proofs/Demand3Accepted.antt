@@ -8,12 +8,12 @@ use native.Mathlib.Omega.{arith}
 use borrow.Author.Tests.{eqb-true, leb-true, leb-false}
 use lib.Dec.{eqb, leb, lit≤}
 use Rattle.text.specs.Bytes.{every, blank, valueFrom}
-use Rattle.text.specs.Texts.{allows}
-use Rattle.text.specs.declared.Texts.{Texts}
+use Rattle.text.specs.LegalTexts.{allows}
+use Rattle.text.specs.declared.LegalTexts.{LegalTexts}
 use Rattle.layout.specs.declared.Edition.{Edition}
 use Rattle.layout.specs.declared.Edition.the-variants.{One, Three, Four}
 use Rattle.layout.specs.Editions.{lastOf}
-use Rattle.layout.specs.Page.{page, element, textOf, textsOf, mayBeBlank, legalText, legal}
+use Rattle.layout.specs.Page.{page, element, textOf, legalTexts, mayBeBlank, legalText, legal}
 use Rattle.layout.proofs.Beyond.{last-above}
 use Rattle.layout.proofs.Elements.{blank-legal, allowed-legal}
 use Rattle.places.proofs.DigitLaws.{same-digits}
@@ -34,14 +34,14 @@ use Rattle.recasting.proofs.TiedLaws.{ties-kept}
 -- a text that is legal in one edition and not lost is legal in the other
 kept-legal : (from to : Edition) (e : ℕ) (t : List ℕ) → Plain e → mayBeBlank e ≡ true → lostText from to e t ≡ false → legalText to e t ≡ true
 unfolding lostText keeps
-kept-legal from to e t plain m k = by (blank t) refl (allows (textsOf to e) t) refl
+kept-legal from to e t plain m k = by (blank t) refl (allows (legalTexts to e) t) refl
   where
-    by : (b : Bool) → blank t ≡ b → (x : Bool) → allows (textsOf to e) t ≡ x → legalText to e t ≡ true
+    by : (b : Bool) → blank t ≡ b → (x : Bool) → allows (legalTexts to e) t ≡ x → legalText to e t ≡ true
     by true f x g = blank-legal to e t m f
     by false f true g = allowed-legal to e t g
     by false f false g = absurd (true≢false (sym lost ∙ k))
       where
-        lost : (not (blank t) && not (eqb e 6 || (eqb e 65 || (allows (textsOf to e) t && sameSense (senseOf from e t) (senseOf to e t))))) ≡ true
+        lost : (not (blank t) && not (eqb e 6 || (eqb e 65 || (allows (legalTexts to e) t && sameSense (senseOf from e t) (senseOf to e t))))) ≡ true
         lost = rw (f, plain .0, plain .1, g)
 
 module _ (from to : Edition) (xs : List ℕ) (a : Acceptable from xs) where
@@ -56,11 +56,11 @@ module _ (from to : Edition) (xs : List ℕ) (a : Acceptable from xs) where
       by : Column from to xs a → legalText to 6 (textOf 6 (result from to xs a)) ≡ true
       by (stays w e) =
           ap (legalText to 6) e ∙
-          ⊎-elim (λ c. ap (λ (s : Texts). (mayBeBlank 6 && blank (textOf 6 xs)) || allows s (textOf 6 xs)) (sym (same-digits from to c)) ∙ was) (λ b. blank-legal to 6 (textOf 6 xs) refl b) w
+          ⊎-elim (λ c. ap (λ (s : LegalTexts). (mayBeBlank 6 && blank (textOf 6 xs)) || allows s (textOf 6 xs)) (sym (same-digits from to c)) ∙ was) (λ b. blank-legal to 6 (textOf 6 xs) refl b) w
       by (moves c b f e) = ap (legalText to 6) e ∙ allowed-legal to 6 (standing (f .digit)) (f .stands)
 
   -- column 111
-  names-target : (ed : Edition) → allows (textsOf ed 65) (digitOf ed ∷ []) ≡ true
+  names-target : (ed : Edition) → allows (legalTexts ed 65) (digitOf ed ∷ []) ≡ true
   unfolding element page allows every valueFrom
   names-target One = refl
   names-target Three = refl

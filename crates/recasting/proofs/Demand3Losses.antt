@@ -10,17 +10,17 @@ use borrow.Author.Tests.{eq-eqb, eqb-true, leb-true, leb-false}
 use lib.Dec.{eqb, leb, lit≤}
 use lib.ListN.{length}
 use Rattle.text.specs.Bytes.{every, blank}
-use Rattle.text.specs.Texts.{among, allows}
+use Rattle.text.specs.LegalTexts.{among, allows}
 use Rattle.text.proofs.Among.{either-half, among-cases}
-use Rattle.losses.specs.Losses.{noLosses, lossesOf, lostList, member, hasLoss, countOf, lowestOf, first, Rising}
-use Rattle.losses.specs.declared.Losses.{Losses}
-use Rattle.losses.proofs.Demand3Losses.{listed-exactly, not-listed, test-is-membership, rising, ones-are-length, lowest-is-head, empty-set, empty-list}
+use Rattle.element_sets.specs.ElementSets.{noElements, setOf, listOf, member, hasElement, countOf, lowestOf, first, Rising}
+use Rattle.element_sets.specs.declared.ElementSet.{ElementSet}
+use Rattle.element_sets.proofs.Demand3Losses.{listed-exactly, not-listed, test-is-membership, rising, ones-are-length, lowest-is-head, empty-set, empty-list}
 use Rattle.layout.specs.declared.Edition.{Edition}
 use Rattle.layout.specs.declared.Edition.the-variants.{One, Three, Four}
 use Rattle.layout.specs.declared.Named.{Named}
 use Rattle.layout.specs.declared.Named.the-variants.{Known, Unknown}
 use Rattle.layout.specs.Editions.{editionOf, lastOf}
-use Rattle.layout.specs.Page.{page, element, textOf, firstByte, textsOf, mayBeBlank, legalText, legal}
+use Rattle.layout.specs.Page.{page, element, textOf, firstByte, legalTexts, mayBeBlank, legalText, legal}
 use Rattle.layout.proofs.Beyond.{last-above, text-none}
 use Rattle.layout.proofs.Demand2Columns.{column-111}
 use Rattle.layout.proofs.Elements.{last-below}
@@ -41,17 +41,17 @@ use Rattle.recasting.proofs.Demand3Accepted.{version-text}
 use Rattle.recasting.proofs.Demand3Meaning.{lost-exactly}
 
 -- what a list of elements and two words of bits must be to be the losses of a recast
-pub record Listed (from to : Edition) (xs : List ℕ) (losses : Losses) (list : List ℕ) : Type 0 where
+pub record Listed (from to : Edition) (xs : List ℕ) (losses : ElementSet) (list : List ℕ) : Type 0 where
   pub exactly : (e : ℕ) → 1 ≤ e → e ≤ 101 → eqb e 65 ≡ false → (member e list ≡ true) ↔ Lost from to xs e
   pub version : member 65 list ≡ false
   pub others : (e : ℕ) → (e < 1) ⊎ (101 < e) → member e list ≡ false
   pub rises : Rising list
-  pub tests : (e : ℕ) → hasLoss losses e ≡ member e list
+  pub tests : (e : ℕ) → hasElement losses e ≡ member e list
   pub counts : countOf losses ≡ length list
   pub lowest : lowestOf losses ≡ first list
 
 module _ (from to : Edition) (xs : List ℕ) (a : Acceptable from xs) where
-  pub losses-listed : Listed from to xs (lossesOf (lostAt from to xs)) (lostList (lostAt from to xs))
+  pub losses-listed : Listed from to xs (setOf (lostAt from to xs)) (listOf (lostAt from to xs))
   losses-listed = record {
     exactly = λ e h l o.
         let is = listed-exactly (lostAt from to xs) e h l in
@@ -98,9 +98,9 @@ module _ (ed : Edition) (xs : List ℕ) (a : Acceptable ed xs) where
   -- a text that is legal is kept: it has the sense that it had
   legal-kept : (e : ℕ) (t : List ℕ) → legalText ed e t ≡ true → lostText ed ed e t ≡ false
   unfolding lostText keeps
-  legal-kept e t h = by (blank t) (mayBeBlank e) (allows (textsOf ed e) t) refl refl h
+  legal-kept e t h = by (blank t) (mayBeBlank e) (allows (legalTexts ed e) t) refl refl h
     where
-      by : (b m x : Bool) → blank t ≡ b → allows (textsOf ed e) t ≡ x → ((m && b) || x) ≡ true → (not b && not (keeps ed ed e t)) ≡ false
+      by : (b m x : Bool) → blank t ≡ b → allows (legalTexts ed e) t ≡ x → ((m && b) || x) ≡ true → (not b && not (keeps ed ed e t)) ≡ false
       by true m x p q k = refl
       by false m true p q k = rw (q, eq-eqb (senseNumber (senseOf ed e t)) (senseNumber (senseOf ed e t)) refl) (rules (eqb e 6) (eqb e 65))
         where
@@ -119,7 +119,7 @@ module _ (ed : Edition) (xs : List ℕ) (a : Acceptable ed xs) where
       by true k = legal-kept e (textOf e xs) (a .lawful e h (leb-true _ _ k))
       by false k = rw (text-none ed xs (a .full) e (leb-false _ _ k))
 
-  pub same-edition-none : (lossesOf (lostAt ed ed xs) ≡ noLosses) × (lostList (lostAt ed ed xs) ≡ [])
+  pub same-edition-none : (setOf (lostAt ed ed xs) ≡ noElements) × (listOf (lostAt ed ed xs) ≡ [])
   same-edition-none = (empty-set (lostAt ed ed xs) nothing-lost, empty-list (lostAt ed ed xs) nothing-lost)
 
   -- column 12 stays

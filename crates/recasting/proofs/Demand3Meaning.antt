@@ -7,12 +7,12 @@ use Prim.Native.Nat.{ℕ, _≤_}
 use borrow.Author.Tests.{eqb-true, eq-eqb, leb-true, leb-false}
 use lib.Dec.{eqb, leb}
 use Rattle.text.specs.Bytes.{every, blank, number}
-use Rattle.text.specs.Texts.{among, allows}
+use Rattle.text.specs.LegalTexts.{among, allows}
 use Rattle.text.proofs.Ways.{and-first}
 use Rattle.text.proofs.Among.{either-half, among-cases, at-number}
 use Rattle.layout.specs.declared.Edition.{Edition}
 use Rattle.layout.specs.Editions.{lastOf}
-use Rattle.layout.specs.Page.{textOf, textsOf, mayBeBlank, legal}
+use Rattle.layout.specs.Page.{textOf, legalTexts, mayBeBlank, legal}
 use Rattle.layout.proofs.Beyond.{text-none}
 use Rattle.places.specs.declared.Place.{Place}
 use Rattle.places.specs.Digits.{crosses}
@@ -80,11 +80,11 @@ module _ (from to : Edition) (e : ℕ) (t : List ℕ) where
   said-kept : (text : List ℕ) → Plain e → blank t ≡ false → legal to text e ≡ true → textOf e text ≡ t → senseOf to e (textOf e text) ≡ senseOf from e t → lostText from to e t ≡ false
   unfolding lostText keeps legal
   said-kept text plain b lawful same senses =
-      let allowed : ((mayBeBlank e && blank t) || allows (textsOf to e) t) ≡ true = rw same at lawful in
+      let allowed : ((mayBeBlank e && blank t) || allows (legalTexts to e) t) ≡ true = rw same at lawful in
       let sense-same : senseOf to e t ≡ senseOf from e t = sym (ap (senseOf to e) same) ∙ senses in
-      by (mayBeBlank e) (allows (textsOf to e) t) refl (rw b at allowed) sense-same
+      by (mayBeBlank e) (allows (legalTexts to e) t) refl (rw b at allowed) sense-same
     where
-      by : (m x : Bool) → allows (textsOf to e) t ≡ x → ((m && false) || x) ≡ true → senseOf to e t ≡ senseOf from e t → (not (blank t) && not (keeps from to e t)) ≡ false
+      by : (m x : Bool) → allows (legalTexts to e) t ≡ x → ((m && false) || x) ≡ true → senseOf to e t ≡ senseOf from e t → (not (blank t) && not (keeps from to e t)) ≡ false
       by m true p q s = rw (b, plain .0, plain .1, p, s, eq-eqb (senseNumber (senseOf from e t)) (senseNumber (senseOf from e t)) refl)
       by true false p q s = absurd (true≢false (sym q))
       by false false p q s = absurd (true≢false (sym q))
@@ -133,11 +133,11 @@ module _ (from to : Edition) (xs : List ℕ) (a : Acceptable from xs) where
 
     -- a text that is filled and not lost is legal in the target, in the same sense
     kept-there : eqb e 6 ≡ false → blank (textOf e xs) ≡ false → lostAt from to xs e ≡ false →
-        (allows (textsOf to e) (textOf e xs) ≡ true) × (sameSense (senseOf from e (textOf e xs)) (senseOf to e (textOf e xs)) ≡ true)
+        (allows (legalTexts to e) (textOf e xs) ≡ true) × (sameSense (senseOf from e (textOf e xs)) (senseOf to e (textOf e xs)) ≡ true)
     unfolding lostText keeps
     kept-there p b k = by _ _ refl refl
       where
-        by : (x y : Bool) → allows (textsOf to e) (textOf e xs) ≡ x → sameSense (senseOf from e (textOf e xs)) (senseOf to e (textOf e xs)) ≡ y → (x ≡ true) × (y ≡ true)
+        by : (x y : Bool) → allows (legalTexts to e) (textOf e xs) ≡ x → sameSense (senseOf from e (textOf e xs)) (senseOf to e (textOf e xs)) ≡ y → (x ≡ true) × (y ≡ true)
         by true true f g = (refl, refl)
         by true false f g = absurd (true≢false (sym (rw (b, p, other, f, g)) ∙ k))
         by false y f g = absurd (true≢false (sym (rw (b, p, other, f)) ∙ k))

@@ -2,21 +2,26 @@
 -- refused call changes no byte and has an empty loss set; an outcome and a buffer fit exactly where they are the ones answered. Assumes nothing.
 use mathlib.Core.Path.{_≡_, refl, sym, ap, _∙_}
 use mathlib.Core.Logic.{_⊎_, _↔_}
-use mathlib.Core.Bool.{Bool, true, false, true≢false}
-use mathlib.Core.List.{List, [], _∷_, _++_}
-use Prim.Native.Nat.{ℕ, _≤_}
+use mathlib.Core.Bool.{Bool, true, false}
+use mathlib.Core.List.{List, [], _∷_}
+use Prim.Native.Nat.{ℕ, _<_, _≤_}
+use native.Mathlib.Omega.{arith}
 use borrow.Author.Tests.{eqb-true, leb-true, leb-false}
 use lib.Dec.{eqb, leb}
 use lib.ListN.{length, take, drop}
 use lib.Seq.{take-at, drop-at}
 use Rattle.text.specs.Bytes.{blank}
-use Rattle.losses.specs.Losses.{noLosses, lossesOf, lostList}
-use Rattle.losses.specs.declared.Losses.{Losses}
-use Rattle.losses.proofs.Demand3Losses.{same-losses}
+use Rattle.element_sets.specs.ElementSets.{noElements, setOf, listOf}
+use Rattle.element_sets.specs.declared.ElementSet.{ElementSet}
+use Rattle.element_sets.proofs.Demand3Losses.{same-losses}
 use Rattle.layout.specs.declared.Edition.{Edition}
 use Rattle.layout.specs.declared.Named.{Named}
 use Rattle.layout.specs.declared.Named.the-variants.{Known, Unknown}
-use Rattle.layout.specs.declared.Refusal.{Refusal}
+use Rattle.refusals.specs.declared.Refusal.{Refusal}
+use Rattle.refusals.specs.declared.Refusal.the-variants.{Unheld, Room}
+use Rattle.refusals.specs.Lent.{Call, refusing, writing, inRoom, frontOf, overwritten, leftBy}
+use Rattle.refusals.proofs.LentLaws as Lent
+use Rattle.refusals.proofs.LentLaws.{has-room, lacks-room, Wrote, fine-means}
 use Rattle.layout.specs.Editions.{asked, lengthOf}
 use Rattle.layout.specs.Page.{textOf}
 use Rattle.ties.specs.Ties.{there}
@@ -25,17 +30,14 @@ use Rattle.checking.specs.declared.Answer.the-variants.{Accepted, Refused}
 use Rattle.checking.specs.Check.{checked}
 use Rattle.checking.specs.Acceptable.{Acceptable}
 use Rattle.checking.specs.Acceptable as Checking
-use Rattle.checking.proofs.Demand1Refusals.{only-one}
+use Rattle.checking.proofs.Demand1Refusals.{fits, only-one}
 use Rattle.checking.proofs.Demand2Acceptance.{accepted-exactly}
-use Rattle.checking.proofs.Told.{Told, told}
 use Rattle.recasting.specs.declared.Outcome.{Outcome}
-use Rattle.recasting.specs.declared.Outcome.the-variants.{Done, Unrecast}
 use Rattle.meanings.specs.Meaning.{meaningOf}
 use Rattle.meanings.specs.Kept.{lostAt}
-use Rattle.recasting.specs.Recast.{digitOf, recastRecord, recastIn, recastTo, recastAfter, recastOf, filledBy, leftTo, leftAfter, leftOf, outcomeLosses}
+use Rattle.recasting.specs.Recast.{digitOf, recastRecord, recastTo, recastAfter, recastOf, outcomeOf, outcomeIn, done, unrecast}
 use Rattle.meanings.specs.Lost.{Expressible}
 use Rattle.recasting.specs.Fits.{Names, Fits, refused, unheld, cramped, recast}
-use Rattle.recasting.proofs.RecastLaws.{is-done, no-room}
 use Rattle.recasting.proofs.ResultLaws.{result-long}
 use Rattle.recasting.proofs.NeverLaws as Never
 use Rattle.recasting.proofs.FitLaws.{result-fits, only-record}
@@ -44,10 +46,13 @@ use Rattle.recasting.proofs.Demand3Meaning.{kept-or-blank, blank-exactl
 use Rattle.recasting.proofs.Demand3Losses.{Listed, losses-listed}
 
 -- What a call that succeeds leaves in the lent buffer: a record in front, and behind it what stood there.
-abbrev pub front : Edition → List ℕ → ℕ → List ℕ → List ℕ
-front to xs edition before = take (lengthOf to) (leftOf xs edition before)
+abbrev pub after : List ℕ → ℕ → List ℕ → List ℕ
+after xs edition before = leftBy (recastOf xs edition) before
 
-pub record Success (xs : List ℕ) (edition : ℕ) (before : List ℕ) (losses : Losses) : Type 0 where
+abbrev pub front : Edition → List ℕ → ℕ → List ℕ → List ℕ
+front to xs edition before = take (lengthOf to) (after xs edition before)
+
+pub record Success (xs : List ℕ) (edition : ℕ) (before : List ℕ) (losses : ElementSet) : Type 0 where
   pub from : Edition
   pub to : Edition
   pub was : checked xs ≡ Accepted from
@@ -64,99 +69,80 @@ pub record Success (xs : List ℕ) (edition : ℕ) (before : List ℕ) (losses :
   pub list : List ℕ
   pub listed : Listed from to xs losses list
   -- the rest of the buffer is as it was
-  pub rest : drop (lengthOf to) (leftOf xs edition before) ≡ drop (lengthOf to) before
+  pub rest : drop (lengthOf to) (after xs edition before) ≡ drop (lengthOf to) before
 
-module _ (from to : Edition) (xs : List ℕ) (edition : ℕ) (before : List ℕ) (ok : checked xs ≡ Accepted from) (names : asked edition ≡ Known to) (room : lengthOf to ≤ length before) where
+module _ (from to : Edition) (xs : List ℕ) (edition : ℕ) (before : List ℕ) (ok : checked xs ≡ Accepted from) (names : asked edition ≡ Known to) where
   fine : Acceptable from xs
   fine = accepted-exactly xs from .0 ok
 
-  -- an accepted record, an edition that is held and room for it: the call succeeds
-  pub succeeds : recastOf xs edition (length before) ≡ Done (lossesOf (lostAt from to xs))
+  long : length (recastRecord from to xs) ≡ lengthOf to
+  long = result-long from to xs fine
+
+  comes-to : recastOf xs edition ≡ writing (setOf (lostAt from to xs)) (recastRecord from to xs)
   unfolding recastAfter recastTo
-  succeeds = rw (ok, names) (is-done from to xs (length before) room)
+  comes-to = rw (ok, names)
 
-  filled : leftOf xs edition before ≡ recastRecord from to xs ++ drop (lengthOf to) before
-  unfolding leftAfter leftTo filledBy
-  filled = rw (ok, names, is-done from to xs (length before) room)
+  -- no room for it: the call refuses
+  lacking : length before < lengthOf to → inRoom (length before) (recastOf xs edition) ≡ refusing Room
+  lacking h = ap (inRoom (length before)) comes-to ∙ lacks-room (setOf (lostAt from to xs)) (recastRecord from to xs) (length before) (omega (arith, long))
 
-  pub is-front : front to xs edition before ≡ recastRecord from to xs
-  is-front = ap (take (lengthOf to)) filled ∙ take-at (recastRecord from to xs) (drop (lengthOf to) before) (lengthOf to) (result-long from to xs fine)
+  module _ (room : lengthOf to ≤ length before) where
+    fitting : inRoom (length before) (recastOf xs edition) ≡ writing (setOf (lostAt from to xs)) (recastRecord from to xs)
+    fitting = ap (inRoom (length before)) comes-to ∙ has-room (setOf (lostAt from to xs)) (recastRecord from to xs) (length before) (omega (arith, long))
 
-  as-demanded : Success xs edition before (lossesOf (lostAt from to xs))
-  as-demanded = record {
-    from = from;
-    to = to;
-    was = ok;
-    names = names;
-    accepted = ap checked is-front ∙ recast-is-accepted from to xs ok;
-    version = ap (textOf 65) is-front ∙ version-text from to xs fine;
-    means = λ e h l o. rw is-front (kept-or-blank from to xs fine e h l o);
-    blanks = λ e h l o t. rw is-front (blank-exactly from to xs fine e h l o t);
-    list = lostList (lostAt from to xs);
-    listed = losses-listed from to xs fine;
-    rest = ap (drop (lengthOf to)) filled ∙ drop-at (recastRecord from to xs) (drop (lengthOf to) before) (lengthOf to) (result-long from to xs fine);
-  }
+    -- an accepted record, an edition that is held and room for it: the call succeeds
+    pub succeeds : outcomeIn (length before) (recastOf xs edition) ≡ done (setOf (lostAt from to xs))
+    succeeds = ap outcomeOf fitting
 
--- the losses of an outcome that is done, and a mark of one that is not
-abbrev lossesIn : Outcome → Losses
-lossesIn (Done losses) = losses
-lossesIn (Unrecast r) = noLosses
+    filled : after xs edition before ≡ overwritten (recastRecord from to xs) before
+    filled = ap (λ (c : Call ElementSet). overwritten (frontOf c) before) fitting
 
-abbrev isDone : Outcome → Bool
-isDone (Done losses) = true
-isDone (Unrecast r) = false
+    pub is-front : front to xs edition before ≡ recastRecord from to xs
+    is-front = ap (take (lengthOf to)) filled ∙ take-at (recastRecord from to xs) (drop (length (recastRecord from to xs)) before) (lengthOf to) long
+
+    as-demanded : Success xs edition before (setOf (lostAt from to xs))
+    as-demanded = record {
+      from = from;
+      to = to;
+      was = ok;
+      names = names;
+      accepted = ap checked is-front ∙ recast-is-accepted from to xs ok;
+      version = ap (textOf 65) is-front ∙ version-text from to xs fine;
+      means = λ e h l o. rw is-front (kept-or-blank from to xs fine e h l o);
+      blanks = λ e h l o t. rw is-front (blank-exactly from to xs fine e h l o t);
+      list = listOf (lostAt from to xs);
+      listed = losses-listed from to xs fine;
+      rest =
+          ap (drop (lengthOf to)) filled ∙ drop-at (recastRecord from to xs) (drop (length (recastRecord from to xs)) before) (lengthOf to) long ∙
+          ap (λ (n : ℕ). drop n before) long;
+    }
 
 -- a call that succeeds has done what demand 3 says
-pub success : (xs : List ℕ) (edition : ℕ) (before : List ℕ) (losses : Losses) → recastOf xs edition (length before) ≡ Done losses → Success xs edition before losses
+pub success : (xs : List ℕ) (edition : ℕ) (before : List ℕ) (losses : ElementSet) → outcomeIn (length before) (recastOf xs edition) ≡ done losses → Success xs edition before losses
 unfolding recastAfter recastTo
-success xs edition before losses d = by (checked xs) refl (asked edition) refl d
+success xs edition before losses d = by (checked xs) refl (asked edition) refl (fine-means (length before) (recastOf xs edition) (ap (λ (o : Outcome). o .verdict) d))
   where
-    by : (c : Answer) → checked xs ≡ c → (n : Named) → asked edition ≡ n → recastAfter c xs edition (length before) ≡ Done losses → Success xs edition before losses
-    by (Refused r) e n f g = absurd (true≢false (sym (ap isDone g)))
-    by (Accepted from) e Unknown f g = absurd (true≢false (sym (ap isDone (sym (ap (λ (m : Named). recastTo from m xs (length before)) f) ∙ g))))
-    by (Accepted from) e (Known to) f g = with-room (leb (lengthOf to) (length before)) refl
-      where
-        fine : Acceptable from xs
-        fine = accepted-exactly xs from .0 e
-
-        in-target : recastIn from to xs (length before) ≡ Done losses
-        in-target = sym (ap (λ (m : Named). recastTo from m xs (length before)) f) ∙ g
-
-        with-room : (x : Bool) → leb (lengthOf to) (length before) ≡ x → Success xs edition before losses
-        with-room true h =
-            let room = leb-true (lengthOf to) (length before) h in
-            let same : lossesOf (lostAt from to xs) ≡ losses = ap lossesIn (sym (is-done from to xs (length before) room) ∙ in-target) in
-            rw (← same) (as-demanded from to xs edition before e f room)
-        with-room false h = absurd (true≢false (sym (ap isDone (sym (no-room from to xs (length before) (leb-false (lengthOf to) (length before) h)) ∙ in-target))))
+    by : (c : Answer) → checked xs ≡ c → (n : Named) → asked edition ≡ n → Wrote (recastOf xs edition) (length before) → Success xs edition before losses
+    by (Refused r) e n f w = let g : refusing r ≡ writing (w .says) (w .bytes) = rw e at (w .is) in let z : _≡_ {A = ℕ} 0 1 = cc in absurd (omega arith)
+    by (Accepted from) e Unknown f w = let g : refusing Unheld ≡ writing (w .says) (w .bytes) = rw (e, f) at (w .is) in let z : _≡_ {A = ℕ} 0 1 = cc in absurd (omega arith)
+    by (Accepted from) e (Known to) f w =
+        let g : writing (setOf (lostAt from to xs)) (recastRecord from to xs) ≡ writing (w .says) (w .bytes) = rw (e, f) at (w .is) in
+        let bytes : recastRecord from to xs ≡ w .bytes = cc in
+        let room : lengthOf to ≤ length before = omega (arith, w .fits, ap length bytes, long from to xs edition before e f) in
+        let same : setOf (lostAt from to xs) ≡ losses = ap (λ (o : Outcome). o .losses) (sym (succeeds from to xs edition before e f room) ∙ d) in
+        rw (← same) (as-demanded from to xs edition before e f room)
 
 -- a refused call leaves the lent buffer as it was, and its loss set is empty
-pub refused-untouched : (xs : List ℕ) (edition : ℕ) (before : List ℕ) (r : Refusal) → recastOf xs edition (length before) ≡ Unrecast r →
-    (leftOf xs edition before ≡ before) × (outcomeLosses (recastOf xs edition (length before)) ≡ noLosses)
-unfolding recastAfter recastTo leftAfter leftTo filledBy
-refused-untouched xs edition before r e = (by (checked xs) (asked edition) refl e, ap outcomeLosses e)
-  where
-    by : (c : Answer) (n : Named) → asked edition ≡ n → recastAfter c xs edition (length before) ≡ Unrecast r → leftAfter c xs edition before ≡ before
-    by (Refused s) n f g = refl
-    by (Accepted from) Unknown f g = rw f
-    by (Accepted from) (Known to) f g =
-        let h : recastIn from to xs (length before) ≡ Unrecast r = sym (ap (λ (m : Named). recastTo from m xs (length before)) f) ∙ g in
-        rw (f, h)
-
--- what check answers fits
-fits : (xs : List ℕ) → Checking.Fits xs (checked xs)
-unfolding Told
-fits xs = by (checked xs) (told xs)
-  where
-    by : (c : Answer) → Told xs c → Checking.Fits xs c
-    by (Accepted ed) t = t .0
-    by (Refused r) t = t
+pub refused-untouched : (xs : List ℕ) (edition : ℕ) (before : List ℕ) (r : Refusal) → outcomeIn (length before) (recastOf xs edition) ≡ unrecast r →
+    (after xs edition before ≡ before) × (outcomeIn (length before) (recastOf xs edition) .losses ≡ noElements)
+refused-untouched xs edition before r e = (Lent.refused-untouched (recastOf xs edition) before r (ap (λ (o : Outcome). o .verdict) e), ap (λ (o : Outcome). o .losses) e)
 
 -- what is answered fits, and nothing else does
 module _ (xs : List ℕ) (edition : ℕ) (before : List ℕ) where
   abbrev pub Is : Outcome → List ℕ → Type 0
-  Is o after = (o ≡ recastOf xs edition (length before)) × (after ≡ leftOf xs edition before)
+  Is o left = (o ≡ outcomeIn (length before) (recastOf xs edition)) × (left ≡ after xs edition before)
 
-  names-lost : (from to : Edition) (a : Acceptable from xs) (losses : Losses) → Names from to xs losses → losses ≡ lossesOf (lostAt from to xs)
+  names-lost : (from to : Edition) (a : Acceptable from xs) (losses : ElementSet) → Names from to xs losses → losses ≡ setOf (lostAt from to xs)
   names-lost from to a losses n = n .words ∙ same-losses (n .test) (lostAt from to xs) same
     where
       equal : (x y : Bool) → (x ≡ true → y ≡ true) → (y ≡ true → x ≡ true) → x ≡ y
@@ -172,34 +158,40 @@ module _ (xs : List ℕ) (edition : ℕ) (before : List ℕ) where
           by false p =
               equal (n .test e) (lostAt from to xs e) (λ t. lost-exactly from to xs a e h l p .1 (n .exactly e h l p .0 t)) (λ t. n .exactly e h l p .1 (lost-exactly from to xs a e h l p .0 t))
 
-  one : (o : Outcome) (after : List ℕ) → Fits xs edition before o after → Is o after
-  unfolding recastAfter recastTo leftAfter leftTo filledBy
-  one o after (refused r f) = let c : checked xs ≡ Refused r = only-one xs (checked xs) (Refused r) (fits xs) f in rw c (refl, refl)
-  one o after (unheld from a n) = let c = accepted-exactly xs from .1 a in rw (c, n) (refl, refl)
-  one o after (cramped from to a n h) = let c = accepted-exactly xs from .1 a in rw (c, n, no-room from to xs (length before) h) (refl, refl)
-  one o after (recast from to a n h ys r losses l) =
-      let c = accepted-exactly xs from .1 a in
-      rw (c, n, is-done from to xs (length before) h) (ap Done (names-lost from to a losses l), ap (λ (t : List ℕ). t ++ drop (lengthOf to) before) (only-record from to xs a ys r))
+  one : (o : Outcome) (left : List ℕ) → Fits xs edition before o left → Is o left
+  unfolding recastAfter recastTo inRoom
+  one o left (refused r f) = let c : checked xs ≡ Refused r = only-one xs (checked xs) (Refused r) (fits xs) f in rw c (refl, refl)
+  one o left (unheld from a n) = let c = accepted-exactly xs from .1 a in rw (c, n) (refl, refl)
+  one o left (cramped from to a n h) =
+      let c = lacking from to xs edition before (accepted-exactly xs from .1 a) n h in
+      (ap outcomeOf (sym c), ap (λ (q : Call ElementSet). overwritten (frontOf q) before) (sym c))
+  one o left (recast from to a n h ys r losses l) =
+      let c = fitting from to xs edition before (accepted-exactly xs from .1 a) n h in (
+        ap done (names-lost from to a losses l) ∙ ap outcomeOf (sym c),
+        ap (λ (t : List ℕ). overwritten t before) (only-record from to xs a ys r) ∙ ap (λ (q : Call ElementSet). overwritten (frontOf q) before) (sym c),
+      )
 
-  those : (from to : Edition) (a : Acceptable from xs) → Names from to xs (lossesOf (lostAt from to xs))
+  those : (from to : Edition) (a : Acceptable from xs) → Names from to xs (setOf (lostAt from to xs))
   those from to a = record { test = lostAt from to xs; words = refl; version = Never.version from to xs a; exactly = lost-exactly from to xs a }
 
-  in-target : (from to : Edition) (a : Acceptable from xs) → asked edition ≡ Known to → (x : Bool) → leb (lengthOf to) (length before) ≡ x →
-      Fits xs edition before (recastIn from to xs (length before)) (filledBy from to xs (recastIn from to xs (length before)) before)
-  unfolding filledBy
-  in-target from to a f true h =
-      rw (is-done from to xs (length before) (leb-true _ _ h))
-      (recast from to a f (leb-true _ _ h) (recastRecord from to xs) (result-fits from to xs a) (lossesOf (lostAt from to xs)) (those from to a))
-  in-target from to a f false h = rw (no-room from to xs (length before) (leb-false _ _ h)) (cramped from to a f (leb-false _ _ h))
+  in-target : (from to : Edition) → checked xs ≡ Accepted from → asked edition ≡ Known to → (x : Bool) → leb (lengthOf to) (length before) ≡ x →
+      Fits xs edition before (outcomeIn (length before) (recastOf xs edition)) (after xs edition before)
+  in-target from to e f true h =
+      let a = accepted-exactly xs from .0 e in
+      let room = leb-true (lengthOf to) (length before) h in
+      rw (fitting from to xs edition before e f room) (recast from to a f room (recastRecord from to xs) (result-fits from to xs a) (setOf (lostAt from to xs)) (those from to a))
+  in-target from to e f false h =
+      let tight = leb-false (lengthOf to) (length before) h in
+      rw (lacking from to xs edition before e f tight) (cramped from to (accepted-exactly xs from .0 e) f tight)
 
-  answered : (c : Answer) → checked xs ≡ c → (n : Named) → asked edition ≡ n → Fits xs edition before (recastAfter c xs edition (length before)) (leftAfter c xs edition before)
-  unfolding recastAfter recastTo leftAfter leftTo
-  answered (Refused r) e n f = refused r (rw e at (fits xs))
-  answered (Accepted from) e Unknown f = rw f (unheld from (accepted-exactly xs from .0 e) f)
-  answered (Accepted from) e (Known to) f = rw f (in-target from to (accepted-exactly xs from .0 e) f (leb (lengthOf to) (length before)) refl)
+  answered : (c : Answer) → checked xs ≡ c → (n : Named) → asked edition ≡ n → Fits xs edition before (outcomeIn (length before) (recastOf xs edition)) (after xs edition before)
+  unfolding recastAfter recastTo inRoom
+  answered (Refused r) e n f = rw e (refused r (rw e at (fits xs)))
+  answered (Accepted from) e Unknown f = rw (e, f) (unheld from (accepted-exactly xs from .0 e) f)
+  answered (Accepted from) e (Known to) f = in-target from to e f (leb (lengthOf to) (length before)) refl
 
-  pub fits-exactly : (o : Outcome) (after : List ℕ) → Fits xs edition before o after ↔ Is o after
-  fits-exactly o after = (one o after, λ i. rw (i .0, i .1) (answered (checked xs) refl (asked edition) refl))
+  pub fits-exactly : (o : Outcome) (left : List ℕ) → Fits xs edition before o left ↔ Is o left
+  fits-exactly o left = (one o left, λ i. rw (i .0, i .1) (answered (checked xs) refl (asked edition) refl))
 
-  pub two-that-fit : (o p : Outcome) (after other : List ℕ) → Fits xs edition before o after → Fits xs edition before p other → (o ≡ p) × (after ≡ other)
-  two-that-fit o p after other f g = let i = one o after f in let j = one p other g in (i .0 ∙ sym (j .0), i .1 ∙ sym (j .1))
+  pub two-that-fit : (o p : Outcome) (left other : List ℕ) → Fits xs edition before o left → Fits xs edition before p other → (o ≡ p) × (left ≡ other)
+  two-that-fit o p left other f g = let i = one o left f in let j = one p other g in (i .0 ∙ sym (j .0), i .1 ∙ sym (j .1))

@@ -7,7 +7,7 @@ use native.Mathlib.Omega.{arith}
 use borrow.Rule.Slice.PartMut.{putMid}
 use lib.ListN.{length, take, drop, length-append, length-drop, take-append-drop, drop-of-length-le}
 use lib.Seq.{length-take-le, take-length, take-all, take-at, drop-at, take-append-le}
-use Rattle.numerals.specs.Spelling.{spelled}
+use Rattle.numerals.specs.Numerals.{spelled}
 use Rattle.layout.specs.declared.Edition.{Edition}
 use Rattle.layout.specs.Editions.{lengthOf}
 use Rattle.layout.proofs.RecordLaws.{shortest}

@@ -8,7 +8,7 @@ use native.Mathlib.Omega.{arith}
 use borrow.Author.Tests.{ne-eqb, not-true}
 use lib.Dec.{eqb}
 use Rattle.text.specs.Bytes.{between}
-use Rattle.text.specs.Texts.{among}
+use Rattle.text.specs.LegalTexts.{among}
 use Rattle.text.proofs.Among.{either-half, among-cases, at-number}
 use Rattle.text.proofs.Ranges.{least, greatest}
 use Rattle.text.proofs.Ways.{and-first, and-second}

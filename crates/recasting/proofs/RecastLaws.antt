@@ -1,16 +1,13 @@
--- What each way through `recast` says of the outcome and of the lent buffer. Assumes nothing.
-use mathlib.Core.Path.{_≡_, refl, sym, ap, _∙_}
+-- What an accepted record has, and what a recast comes to at the arm that was taken. Assumes nothing.
+use mathlib.Core.Path.{_≡_, sym, ap, _∙_}
 use mathlib.Core.Bool.{true}
 use mathlib.Core.List.{List, _++_}
 use Prim.Native.Nat.{ℕ, _<_, _≤_}
 use native.Mathlib.Omega.{arith}
-use borrow.Author.Tests.{le-leb, lt-leb}
 use lib.ListN.{length, drop}
-use Rattle.losses.specs.Losses.{lossesOf}
-use Rattle.losses.specs.declared.Losses.{Losses}
 use Rattle.layout.specs.declared.Edition.{Edition}
 use Rattle.layout.specs.declared.Named.{Named}
-use Rattle.layout.specs.declared.Refusal.the-variants.{Room}
+use Rattle.refusals.specs.Lent.{overwritten}
 use Rattle.layout.specs.Editions.{lengthOf, lastOf}
 use Rattle.layout.specs.Page.{textOf, legalText, legal}
 use Rattle.layout.proofs.RecordLaws.{shortest}
@@ -18,9 +15,8 @@ use Rattle.checking.specs.declared.Answer.{Answer}
 use Rattle.checking.specs.declared.Answer.the-variants.{Accepted}
 use Rattle.checking.specs.Check.{checked}
 use Rattle.checking.proofs.Demand2Acceptance.{accepted-exactly}
-use Rattle.recasting.specs.declared.Outcome.the-variants.{Done, Unrecast}
-use Rattle.meanings.specs.Kept.{lostAt}
-use Rattle.recasting.specs.Recast.{recastRecord, recastIn, recastTo, recastAfter, filledBy, leftTo, leftAfter}
+use Rattle.recasting.specs.Recast.{recastRecord, recastTo, recastAfter}
+use Rattle.recasting.proofs.ResultLaws.{result-long}
 
 pub accepted-long : (from : Edition) (xs : List ℕ) → checked xs ≡ Accepted from → 131 ≤ length xs
 accepted-long from xs ok = omega (arith, accepted-exactly xs from .0 ok .full, shortest from)
@@ -29,40 +25,24 @@ pub own-texts : (from : Edition) (xs : List ℕ) → checked xs ≡ Accepted fro
 unfolding legal
 own-texts from xs ok = let a = accepted-exactly xs from .0 ok in (a .full, a .lawful)
 
--- the outcome by the room
-module _ (from to : Edition) (xs : List ℕ) (room : ℕ) where
-  pub is-done : lengthOf to ≤ room → recastIn from to xs room ≡ Done (lossesOf (lostAt from to xs))
-  unfolding recastIn
-  is-done h = rw (le-leb (lengthOf to) room h)
+-- the recast record is as long as the target's records are
+module _ (from to : Edition) (xs : List ℕ) (n : ℕ) (cut : n ≡ lengthOf to) (ok : checked xs ≡ Accepted from) where
+  long : length (recastRecord from to xs) ≡ n
+  long = result-long from to xs (accepted-exactly xs from .0 ok) ∙ sym cut
 
-  pub no-room : room < lengthOf to → recastIn from to xs room ≡ Unrecast Room
-  unfolding recastIn
-  no-room h = rw (lt-leb (lengthOf to) room h)
+  pub fitting : {room : ℕ} → n ≤ room → length (recastRecord from to xs) ≤ room
+  fitting h = omega (arith, long)
 
--- and what it leaves
-module _ (from to : Edition) (xs before : List ℕ) (n : ℕ) (g : n ≡ lengthOf to) where
-  pub left-alone : length before < n → (Unrecast Room ≡ recastIn from to xs (length before)) × (before ≡ filledBy from to xs (Unrecast Room) before)
-  unfolding filledBy
-  left-alone h = (sym (no-room from to xs (length before) (omega arith)), refl)
+  pub not-fitting : {room : ℕ} → room < n → room < length (recastRecord from to xs)
+  not-fitting h = omega (arith, long)
 
   -- the record in front of what stood behind it
-  pub done : n ≤ length before → (losses : Losses) → losses ≡ lossesOf (lostAt from to xs) → (row : List ℕ) → row ≡ recastRecord from to xs →
-      (Done losses ≡ recastIn from to xs (length before)) × (row ++ drop n before ≡ filledBy from to xs (Done losses) before)
-  unfolding filledBy
-  done h losses k row l = (
-    ap Done k ∙ sym (is-done from to xs (length before) (omega arith)),
-    ap (λ (t : List ℕ). t ++ drop n before) l ∙ ap (λ (k : ℕ). recastRecord from to xs ++ drop k before) g,
-  )
+  pub filled : (before row : List ℕ) → row ≡ recastRecord from to xs → row ++ drop n before ≡ overwritten (recastRecord from to xs) before
+  filled before row e = rw (e, ← long)
 
 -- the edition, or the answer, that an arm was taken at
-pub at-name : {m n : Named} (from : Edition) (xs : List ℕ) (room : ℕ) → m ≡ n → recastTo from n xs room ≡ recastTo from m xs room
-at-name from xs room e = sym (ap (λ (q : Named). recastTo from q xs room) e)
+pub at-name : {m n : Named} (from : Edition) (xs : List ℕ) → m ≡ n → recastTo from n xs ≡ recastTo from m xs
+at-name from xs e = sym (ap (λ (q : Named). recastTo from q xs) e)
 
-pub at-name-left : {m n : Named} (from : Edition) (xs before : List ℕ) → m ≡ n → leftTo from n xs before ≡ leftTo from m xs before
-at-name-left from xs before e = sym (ap (λ (q : Named). leftTo from q xs before) e)
-
-pub at-answer : {a b : Answer} (xs : List ℕ) (edition room : ℕ) → a ≡ b → recastAfter b xs edition room ≡ recastAfter a xs edition room
-at-answer xs edition room e = sym (ap (λ (q : Answer). recastAfter q xs edition room) e)
-
-pub at-answer-left : {a b : Answer} (xs : List ℕ) (edition : ℕ) (before : List ℕ) → a ≡ b → leftAfter b xs edition before ≡ leftAfter a xs edition before
-at-answer-left xs edition before e = sym (ap (λ (q : Answer). leftAfter q xs edition before) e)
+pub at-answer : {a b : Answer} (xs : List ℕ) (edition : ℕ) → a ≡ b → recastAfter b xs edition ≡ recastAfter a xs edition
+at-answer xs edition e = sym (ap (λ (q : Answer). recastAfter q xs edition) e)

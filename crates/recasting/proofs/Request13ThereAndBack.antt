@@ -11,11 +11,11 @@ use borrow.Author.Tests.{eqb-true, eqb-false}
 use lib.Dec.{eqb, lit≤}
 use lib.ListN.{length}
 use Rattle.text.specs.Bytes.{blank, number}
-use Rattle.text.specs.declared.Texts.the-variants.{Within}
+use Rattle.text.specs.declared.LegalTexts.the-variants.{Within}
 use Rattle.text.proofs.Ways.{decide}
-use Rattle.losses.specs.Losses.{noLosses, lossesOf, hasLoss}
-use Rattle.losses.specs.declared.Losses.{Losses}
-use Rattle.losses.proofs.Demand3Losses.{has-exactly, empty-set, none-lost}
+use Rattle.element_sets.specs.ElementSets.{noElements, setOf, hasElement}
+use Rattle.element_sets.specs.declared.ElementSet.{ElementSet}
+use Rattle.element_sets.proofs.Demand3Losses.{has-exactly, empty-set, none-lost}
 use Rattle.layout.specs.declared.Edition.{Edition}
 use Rattle.layout.specs.Editions.{editionNumber, lengthOf}
 use Rattle.layout.specs.Page.{element, page, textOf}
@@ -35,8 +35,8 @@ use Rattle.checking.proofs.Demand2Acceptance.{accepted-exactly}
 use Rattle.reading.specs.declared.Reading.the-variants.{At}
 use Rattle.reading.specs.Readings.{itemOf, readingOf}
 use Rattle.meanings.specs.Kept.{lostAt}
-use Rattle.recasting.specs.declared.Outcome.the-variants.{Done}
-use Rattle.recasting.specs.Recast.{recastRecord, recastOf, outcomeLosses}
+use Rattle.recasting.specs.declared.Outcome.{Outcome}
+use Rattle.recasting.specs.Recast.{recastRecord, recastOf, outcomeIn, done}
 use Rattle.recasting.proofs.Request9Places.{standing, digit-number, HasDigit, every-place}
 use Rattle.recasting.proofs.NeverLaws as Never
 use Rattle.recasting.proofs.Demand3Accepted.{recast-is-accepted}
@@ -64,16 +64,16 @@ pub record AnotherDigit (from : Edition) (xs ys : List ℕ) : Type 0 where
   pub edge : OnEdge xs
 
 -- what element e of xs has become in ys, where `losses` is the first loss set
-pub data Home (from : Edition) (losses : Losses) (xs ys : List ℕ) (e : ℕ) : Type 0 where
-  first-characters : hasLoss losses e ≡ false → textOf e ys ≡ textOf e xs → Home from losses xs ys e
-  was-lost : hasLoss losses e ≡ true → blank (textOf e ys) ≡ true → Home from losses xs ys e
+pub data Home (from : Edition) (losses : ElementSet) (xs ys : List ℕ) (e : ℕ) : Type 0 where
+  first-characters : hasElement losses e ≡ false → textOf e ys ≡ textOf e xs → Home from losses xs ys e
+  was-lost : hasElement losses e ≡ true → blank (textOf e ys) ≡ true → Home from losses xs ys e
   another-digit : e ≡ 6 → AnotherDigit from xs ys → Home from losses xs ys e
 
 pub record ThereAndBack (from to : Edition) (xs outward homeward : List ℕ) : Type 0 where
   -- both calls succeed, and the second loses nothing
-  pub losses : Losses
-  pub goes : recastOf xs (editionNumber to) (length outward) ≡ Done losses
-  pub returns : recastOf (there to xs outward) (editionNumber from) (length homeward) ≡ Done noLosses
+  pub losses : ElementSet
+  pub goes : outcomeIn (length outward) (recastOf xs (editionNumber to)) ≡ done losses
+  pub returns : outcomeIn (length homeward) (recastOf (there to xs outward) (editionNumber from)) ≡ done noElements
   -- what has become of each element; column 111 has its first digit
   pub elements : (e : ℕ) → 1 ≤ e → e ≤ 101 → Home from losses xs (back from to xs outward homeward) e
   pub version : textOf 65 (back from to xs outward homeward) ≡ textOf 65 xs
@@ -96,14 +96,14 @@ module _ (from to : Edition) (xs : List ℕ) (a : Acceptable from xs) where
       let filled = longitude-alike (textOf 6 xs) (textOf 7 xs) (textOf 8 xs) tied ∙ latitude-alike (textOf 6 xs) (textOf 7 xs) (textOf 8 xs) tied ∙ b in
       at-most from xs 0 1800 8 (in-each from 8 (Within 0 1800) refl refl refl) (a .lawful 8 (lit≤ tt) (omega (arith, last-above from))) filled
 
-  not-lost : hasLoss (lossesOf lost) 6 ≡ false
+  not-lost : hasElement (setOf lost) 6 ≡ false
   not-lost = has-exactly lost 6 (lit≤ tt) (lit≤ tt) ∙ Never.column-12 from to xs a
 
-  column-home : Home from (lossesOf lost) xs home 6
+  column-home : Home from (setOf lost) xs home 6
   unfolding itemOf
   column-home = by (crosses from to) (blank (textOf 6 xs)) refl refl
     where
-      moved : crosses from to ≡ true → blank (textOf 6 xs) ≡ false → Home from (lossesOf lost) xs home 6
+      moved : crosses from to ≡ true → blank (textOf 6 xs) ≡ false → Home from (setOf lost) xs home 6
       moved c b = by (eqb (f .digit) (number (textOf 6 xs))) refl
         where
           f : HasDigit from from xs
@@ -120,7 +120,7 @@ module _ (from to : Edition) (xs : List ℕ) (a : Acceptable from xs) where
               let lowest = home-lowest from to (number (textOf 6 xs)) (number (textOf 7 xs)) (number (textOf 8 xs)) ∙ f .lowest in
               another-only from to (number (textOf 6 xs)) (number (textOf 7 xs)) (number (textOf 8 xs)) (own .small) (own .may-stand) (own .ties) (longitude-most b) (λ e. n (omega (arith, lowest, e)))
 
-          by : (x : Bool) → eqb (f .digit) (number (textOf 6 xs)) ≡ x → Home from (lossesOf lost) xs home 6
+          by : (x : Bool) → eqb (f .digit) (number (textOf 6 xs)) ≡ x → Home from (setOf lost) xs home 6
           by true p = first-characters not-lost (stands ∙ ap standing (eqb-true _ _ p) ∙ sym (own .as-it-stands))
           by false p =
               another-digit refl
@@ -133,15 +133,15 @@ module _ (from to : Edition) (xs : List ℕ) (a : Acceptable from xs) where
                 edge = (b, edge (eqb-false _ _ p));
               })
 
-      by : (x y : Bool) → crosses from to ≡ x → blank (textOf 6 xs) ≡ y → Home from (lossesOf lost) xs home 6
+      by : (x y : Bool) → crosses from to ≡ x → blank (textOf 6 xs) ≡ y → Home from (setOf lost) xs home 6
       by false y p q = first-characters not-lost (Returns.six-stays from to xs a (inl p))
       by true true p q = first-characters not-lost (Returns.six-stays from to xs a (inr q))
       by true false p q = moved p q
 
-  each-home : (e : ℕ) → 1 ≤ e → e ≤ 101 → Home from (lossesOf lost) xs home e
+  each-home : (e : ℕ) → 1 ≤ e → e ≤ 101 → Home from (setOf lost) xs home e
   each-home e h l = by (eqb e 6) (eqb e 65) refl refl
     where
-      by : (x y : Bool) → eqb e 6 ≡ x → eqb e 65 ≡ y → Home from (lossesOf lost) xs home e
+      by : (x y : Bool) → eqb e 6 ≡ x → eqb e 65 ≡ y → Home from (setOf lost) xs home e
       by true y p q = rw (eqb-true e 6 p) column-home
       by false true p q = first-characters (has-exactly lost e h l ∙ rw (eqb-true e 65 q) (Never.version from to xs a)) (rw (eqb-true e 65 q) (Returns.version-home from to xs a))
       by false false p q =
@@ -152,7 +152,7 @@ module _ (from to : Edition) (xs : List ℕ) (a : Acceptable from xs) where
   six-again : (OnEdge xs → ⊥) → textOf 6 home ≡ textOf 6 xs
   six-again n = by column-home
     where
-      by : Home from (lossesOf lost) xs home 6 → textOf 6 home ≡ textOf 6 xs
+      by : Home from (setOf lost) xs home 6 → textOf 6 home ≡ textOf 6 xs
       by (first-characters k e) = e
       by (was-lost k b) = absurd (true≢false (sym k ∙ not-lost))
       by (another-digit e d) = absurd (n (d .edge))
@@ -171,16 +171,16 @@ module _ (from to : Edition) (xs outward homeward : List ℕ) (ok : checked xs �
   is-back : back from to xs outward homeward ≡ Returns.home from to xs fine
   is-back = is-front to from (there to xs outward) (editionNumber from) homeward accepted-there (by-number from) room-home ∙ ap (recastRecord to from) is-there
 
-  goes : recastOf xs (editionNumber to) (length outward) ≡ Done (lossesOf (lostAt from to xs))
+  goes : outcomeIn (length outward) (recastOf xs (editionNumber to)) ≡ done (setOf (lostAt from to xs))
   goes = succeeds from to xs (editionNumber to) outward ok (by-number to) room
 
   pub there-and-back : ThereAndBack from to xs outward homeward
   there-and-back = record {
-    losses = lossesOf (lostAt from to xs);
+    losses = setOf (lostAt from to xs);
     goes = goes;
     returns =
         succeeds to from (there to xs outward) (editionNumber from) homeward accepted-there (by-number from) room-home ∙
-        ap Done (ap (λ (t : List ℕ). lossesOf (lostAt to from t)) is-there ∙ empty-set (lostAt to from (recastRecord from to xs)) (Returns.nothing-lost from to xs fine));
+        ap done (ap (λ (t : List ℕ). setOf (lostAt to from t)) is-there ∙ empty-set (lostAt to from (recastRecord from to xs)) (Returns.nothing-lost from to xs fine));
     elements = λ e h l. rw is-back (each-home from to xs fine e h l);
     version = ap (textOf 65) is-back ∙ Returns.version-home from to xs fine;
   }
@@ -195,13 +195,13 @@ module _ (from to : Edition) (xs outward homeward : List ℕ) (ok : checked xs �
   column-12-lowest c b = ap (textOf 6) is-back ∙ Returns.six-home from to xs fine c b
 
   -- a record that lost nothing on the way and holds no such place comes home byte for byte
-  pub byte-for-byte : recastOf xs (editionNumber to) (length outward) ≡ Done noLosses → (OnEdge xs → ⊥) → back from to xs outward homeward ≡ xs
+  pub byte-for-byte : outcomeIn (length outward) (recastOf xs (editionNumber to)) ≡ done noElements → (OnEdge xs → ⊥) → back from to xs outward homeward ≡ xs
   byte-for-byte d n =
-      is-back ∙ Returns.comes-whole from to xs fine (none-lost (lostAt from to xs) (ap outcomeLosses (sym goes ∙ d))) (six-again from to xs fine n)
+      is-back ∙ Returns.comes-whole from to xs fine (none-lost (lostAt from to xs) (ap (λ (o : Outcome). o .losses) (sym goes ∙ d))) (six-again from to xs fine n)
 
 -- there, back and there again is there, and the third recast loses nothing
 pub there-again : (from to : Edition) (xs outward homeward again : List ℕ) → checked xs ≡ Accepted from → lengthOf to ≤ length outward → lengthOf from ≤ length homeward → lengthOf to ≤ length again →
-    (recastOf (back from to xs outward homeward) (editionNumber to) (length again) ≡ Done noLosses) × (there to (back from to xs outward homeward) again ≡ there to xs outward)
+    (outcomeIn (length again) (recastOf (back from to xs outward homeward) (editionNumber to)) ≡ done noElements) × (there to (back from to xs outward homeward) again ≡ there to xs outward)
 there-again from to xs outward homeward again ok room room-home room-again =
     let accepted = accepted-there from to xs outward homeward ok room room-home in
     let a = fine from to xs outward homeward ok room room-home in (

@@ -20,7 +20,7 @@ use Rattle.layout.proofs.Elements.{last-below}
 use Rattle.layout.proofs.Holding.{Holds, empty, holds, in-digits}
 use Rattle.layout.proofs.RecordLaws.{begins, text-long, same-record}
 use Rattle.places.specs.Digits.{keepsTie, mayStand, lowestDigit, crosses}
-use Rattle.places.proofs.DigitLaws.{stands, column-texts, digit-stands, crosses-back}
+use Rattle.places.proofs.DigitLaws.{isDigitOf, column-texts, digit-stands, crosses-back}
 use Rattle.places.proofs.Demand3Digits.{digit-found}
 use Rattle.places.proofs.Request13Digits.{same-lowest}
 use Rattle.ties.specs.Ties.{octantTie, tie}
@@ -64,12 +64,12 @@ tied-digit Four t u b h = refl
 
 pub own-digit : (ed : Edition) (xs : List ℕ) → Acceptable ed xs → blank (textOf 6 xs) ≡ false → OwnDigit ed xs
 unfolding tie
-own-digit ed xs a b = by (in-digits (stands ed) ed xs 6 (column-texts ed (textOf 6 xs)) (a .lawful 6 (lit≤ tt) (omega (arith, last-above ed))))
+own-digit ed xs a b = by (in-digits (isDigitOf ed) ed xs 6 (column-texts ed (textOf 6 xs)) (a .lawful 6 (lit≤ tt) (omega (arith, last-above ed))))
   where
     one : textOf 6 xs ≡ firstByte 6 xs ∷ []
     one = six xs (omega (arith, a .full, begins ed 6 (lit≤ tt) (omega (arith, last-above ed))))
 
-    by : Holds (stands ed) (textOf 6 xs) → OwnDigit ed xs
+    by : Holds (isDigitOf ed) (textOf 6 xs) → OwnDigit ed xs
     by (empty e) = absurd (true≢false (sym e ∙ b))
     by (holds e d p) =
         let s = as-standing (firstByte 6 xs) (sym (ap digits one) ∙ d) in

@@ -7,7 +7,7 @@ use Prim.Native.Nat.{ℕ}
 use borrow.Author.Tests.{leb-true, leb-false}
 use lib.Dec.{leb, lit≤}
 use Rattle.text.specs.Bytes.{every, blank}
-use Rattle.text.specs.Texts.{among}
+use Rattle.text.specs.LegalTexts.{among}
 use Rattle.text.proofs.Among.{either-half, among-cases, not-second}
 use Rattle.text.proofs.Ways.{second-holds, decide}
 use Rattle.layout.specs.declared.Edition.{Edition}
@@ -15,7 +15,7 @@ use Rattle.layout.specs.declared.Edition.the-variants.{One, Three, Four}
 use Rattle.layout.specs.Editions.{lastOf}
 use Rattle.layout.specs.Page.{textOf}
 use Rattle.ties.specs.Ties.{placeTie, octantTie, windTie, tie}
-use Rattle.ties.proofs.Looks.{elementsOf, same-tie, same-in, of-each}
+use Rattle.ties.proofs.Looks.{elementsIn, same-tie, same-in, of-each}
 use Rattle.checking.specs.Acceptable.{Acceptable}
 use Rattle.places.specs.Digits.{crosses}
 use Rattle.meanings.specs.Kept.{lostAt}
@@ -84,11 +84,11 @@ module _ (from to : Edition) (xs : List ℕ) (a : Acceptable from xs) where
       (λ p. ap (λ (t : List ℕ). windTie t (textOf 14 (result from to xs a))) p ∙ ap (windTie (textOf 93 xs)) (unchanged 14 refl) ∙ a .tied 9) speed-or-blank
 
   -- every other tie looks at elements that are never lost
-  steady-tie : (k : ℕ) → among 1 2 9 9 k ≡ false → every steady (elementsOf k) ≡ true
+  steady-tie : (k : ℕ) → among 1 2 9 9 k ≡ false → every steady (elementsIn k) ≡ true
   unfolding every
   steady-tie k n =
       ⊎-elim (λ y. absurd (true≢false (sym y ∙ n))) (λ y. y)
-      (either-half (among 1 2 9 9 k) _ (of-each (λ k. among 1 2 9 9 k || every steady (elementsOf k)) refl (λ k e. second-holds (among 1 2 9 9 k) _ (rw e)) k))
+      (either-half (among 1 2 9 9 k) _ (of-each (λ k. among 1 2 9 9 k || every steady (elementsIn k)) refl (λ k e. second-holds (among 1 2 9 9 k) _ (rw e)) k))
 
   -- and so the recast keeps it exactly where the record does
   pub as-before : (k : ℕ) → among 1 2 9 9 k ≡ false → tie to (result from to xs a) k ≡ tie from xs k

@@ -4,25 +4,25 @@ use Prim.Native.Nat.{ℕ, _+_, _<_, _≤_}
 use mathlib.Core.Path.{_≡_}
 use mathlib.Core.Logic.{_⊎_, _↔_}
 use mathlib.Core.Bool.{Bool, true, false}
-use mathlib.Core.List.{List, [], _∷_, _++_}
+use mathlib.Core.List.{List, [], _∷_}
 use lib.Dec.{eqb}
-use lib.ListN.{length, drop}
+use lib.ListN.{length}
 use Rattle.text.specs.Bytes.{blank, number}
-use Rattle.losses.specs.Losses.{lossesOf}
-use Rattle.losses.specs.declared.Losses.{Losses}
+use Rattle.element_sets.specs.ElementSets.{setOf}
+use Rattle.element_sets.specs.declared.ElementSet.{ElementSet}
 use Rattle.layout.specs.declared.Edition.{Edition}
 use Rattle.layout.specs.declared.Named.the-variants.{Known, Unknown}
-use Rattle.layout.specs.declared.Refusal.{Refusal}
-use Rattle.layout.specs.declared.Refusal.the-variants.{Unheld, Room}
+use Rattle.refusals.specs.declared.Refusal.{Refusal}
+use Rattle.refusals.specs.declared.Refusal.the-variants.{Unheld, Room}
 use Rattle.layout.specs.Editions.{asked, lengthOf, lastOf}
+use Rattle.refusals.specs.Lent.{overwritten}
 use Rattle.layout.specs.Page.{textOf}
 use Rattle.checking.specs.declared.Answer.the-variants.{Refused}
 use Rattle.checking.specs.Acceptable.{Acceptable}
 use Rattle.checking.specs.Acceptable as Checking
 use Rattle.places.specs.Digits.{suits, crosses}
 use Rattle.recasting.specs.declared.Outcome.{Outcome}
-use Rattle.recasting.specs.declared.Outcome.the-variants.{Done, Unrecast}
-use Rattle.recasting.specs.Recast.{digitOf}
+use Rattle.recasting.specs.Recast.{digitOf, done, unrecast}
 use Rattle.meanings.specs.Lost.{Expressible, Lost}
 
 -- digit d of the target gives the record's place and keeps tie 2, and no lower one does
@@ -49,15 +49,15 @@ pub record Recasts (from to : Edition) (xs ys : List ℕ) : Type 0 where
   pub missing : (e : ℕ) → 1 ≤ e → e ≤ lastOf to → eqb e 6 ≡ false → eqb e 65 ≡ false → blank (textOf e xs) ≡ true → blank (textOf e ys) ≡ true
 
 -- the losses are those elements that are lost, and no others; column 111 is never one
-pub record Names (from to : Edition) (xs : List ℕ) (losses : Losses) : Type 0 where
+pub record Names (from to : Edition) (xs : List ℕ) (losses : ElementSet) : Type 0 where
   pub test : ℕ → Bool
-  pub words : losses ≡ lossesOf test
+  pub words : losses ≡ setOf test
   pub version : test 65 ≡ false
   pub exactly : (e : ℕ) → 1 ≤ e → e ≤ 101 → eqb e 65 ≡ false → (test e ≡ true) ↔ Lost from to xs e
 
 pub data Fits (xs : List ℕ) (edition : ℕ) (before : List ℕ) : Outcome → List ℕ → Type 0 where
-  refused : (r : Refusal) → Checking.Fits xs (Refused r) → Fits xs edition before (Unrecast r) before
-  unheld : (from : Edition) → Acceptable from xs → asked edition ≡ Unknown → Fits xs edition before (Unrecast Unheld) before
-  cramped : (from to : Edition) → Acceptable from xs → asked edition ≡ Known to → length before < lengthOf to → Fits xs edition before (Unrecast Room) before
-  recast : (from to : Edition) → Acceptable from xs → asked edition ≡ Known to → lengthOf to ≤ length before → (ys : List ℕ) → Recasts from to xs ys → (losses : Losses) → Names from to xs losses →
-      Fits xs edition before (Done losses) (ys ++ drop (lengthOf to) before)
+  refused : (r : Refusal) → Checking.Fits xs (Refused r) → Fits xs edition before (unrecast r) before
+  unheld : (from : Edition) → Acceptable from xs → asked edition ≡ Unknown → Fits xs edition before (unrecast Unheld) before
+  cramped : (from to : Edition) → Acceptable from xs → asked edition ≡ Known to → length before < lengthOf to → Fits xs edition before (unrecast Room) before
+  recast : (from to : Edition) → Acceptable from xs → asked edition ≡ Known to → lengthOf to ≤ length before → (ys : List ℕ) → Recasts from to xs ys → (losses : ElementSet) → Names from to xs losses →
+      Fits xs edition before (done losses) (overwritten ys before)

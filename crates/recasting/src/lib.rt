@@ -5,55 +5,35 @@
 // `recastOf` of specs/Recast.antt says what is answered; what is lost is the business of `blanking`.
 use blanking::names;
 use checking::Answer;
+use element_sets::ElementSet;
 use layout::Edition;
 use layout::Named;
-use layout::Refusal;
 use layout::page;
 use layout::widths;
-use losses::Losses;
+use refusals::Refusal;
+use refusals::Verdict;
 ghost use mathlib.Core.Path.{_≡_};
 ghost use Prim.Native.Nat.{_<_, _≤_};
 ghost use lib.ListN.{length, take, drop, set};
+ghost use Rattle.refusals.specs.Lent.{Answers};
 ghost use Rattle.layout.specs.Editions.{asked, lengthOf};
 ghost use Rattle.layout.specs.Page.{startOf};
 ghost use Rattle.checking.specs.Check.{checked};
-ghost use Rattle.recasting.specs.Recast.{hemisphere, digitOf, widened, recastRecord, recastIn, filledBy, recastTo, leftTo, recastOf, leftOf, outcomeNumber, outcomePlace, outcomeLosses};
+ghost use Rattle.recasting.specs.Recast.{hemisphere, digitOf, widened, recastRecord, recastTo, recastOf, outcomeOf, unrecast};
 
-// What recasting a record answers.
-pub enum Outcome {
-    Done(Losses),
-    Unrecast(Refusal),
+// What recasting a record answers: the verdict, and the elements lost, none where it is refused.
+pub struct Outcome {
+    pub verdict: Verdict,
+    pub losses: ElementSet,
 }
 
-impl Outcome {
-    // The number of the refusal, 0 where there is none.
-    pub fn number(self) -> u64
-        ensures { λ r. ⌜ r ≡ outcomeNumber self ⌝ }
-    {
-        match self {
-            Outcome::Done(_) => 0,
-            Outcome::Unrecast(refusal) => refusal.number(),
-        }
-    }
-
-    // The place that goes with it.
-    pub fn place(self) -> u64
-        ensures { λ r. ⌜ r ≡ outcomePlace self ⌝ }
-    {
-        match self {
-            Outcome::Done(_) => 0,
-            Outcome::Unrecast(refusal) => refusal.place(),
-        }
-    }
-
-    // The elements lost, none where the record is refused.
-    pub fn losses(self) -> Losses
-        ensures { λ r. ⌜ r ≡ outcomeLosses self ⌝ }
-    {
-        match self {
-            Outcome::Done(losses) => losses,
-            Outcome::Unrecast(_) => Losses::none(),
-        }
+// The outcome of a record that is refused.
+fn refused(refusal: Refusal) -> Outcome
+    ensures { λ r. ⌜ r ≡ unrecast refusal ⌝ }
+{
+    Outcome {
+        verdict: Verdict::Refused(refusal),
+        losses: ElementSet::none(),
     }
 }
 
@@ -137,38 +117,38 @@ fn make(from: Edition, to: Edition, line: &[u8], row: &mut [u8])
 // written before every refusal was asked.
 fn recast_in(from: Edition, to: Edition, line: &[u8], buffer: &mut [u8]) -> Outcome
     requires { ⌜ checked (now line) ≡ Answer.Accepted from ⌝ }
-    ensures { λ r. ⌜ r ≡ recastIn from to (now (line .entry)) (length (now (buffer .entry))) ⌝ }
-    ensures { λ r. ⌜ now (buffer .exit) ≡ filledBy from to (now (line .entry)) r (now (buffer .entry)) ⌝ }
+    ensures { λ r. ⌜ Answers outcomeOf (recastTo from (Named.Known to) (now (line .entry))) (now (buffer .entry)) (now (buffer .exit)) r ⌝ }
 {
     let length = to.length();
     if buffer.len() < length {
-        return Outcome::Unrecast(Refusal::Room);
+        return refused(Refusal::Room);
     }
     let row = &mut buffer[..length];
     make(from, to, line, row);
-    Outcome::Done(names::losses_of(from, to, line))
+    Outcome {
+        verdict: Verdict::Fine,
+        losses: names::losses_of(from, to, line),
+    }
 }
 
 // Recasts an accepted record to the edition that is asked for.
 fn recast_to(from: Edition, line: &[u8], edition: u64, buffer: &mut [u8]) -> Outcome
     requires { ⌜ checked (now line) ≡ Answer.Accepted from ⌝ }
-    ensures { λ r. ⌜ r ≡ recastTo from (asked edition) (now (line .entry)) (length (now (buffer .entry))) ⌝ }
-    ensures { λ r. ⌜ now (buffer .exit) ≡ leftTo from (asked edition) (now (line .entry)) (now (buffer .entry)) ⌝ }
+    ensures { λ r. ⌜ Answers outcomeOf (recastTo from (asked edition) (now (line .entry))) (now (buffer .entry)) (now (buffer .exit)) r ⌝ }
 {
     match Edition::of_number(edition) {
         Named::Known(to) => recast_in(from, to, line, buffer),
-        Named::Unknown => Outcome::Unrecast(Refusal::Unheld),
+        Named::Unknown => refused(Refusal::Unheld),
     }
 }
 
 // Recasts a record: any bytes, any edition number, any buffer. Success writes the first 131 or 159
 // bytes; a refusal writes none.
 pub fn recast(line: &[u8], edition: u64, buffer: &mut [u8]) -> Outcome
-    ensures { λ r. ⌜ r ≡ recastOf (now (line .entry)) edition (length (now (buffer .entry))) ⌝ }
-    ensures { λ r. ⌜ now (buffer .exit) ≡ leftOf (now (line .entry)) edition (now (buffer .entry)) ⌝ }
+    ensures { λ r. ⌜ Answers outcomeOf (recastOf (now (line .entry)) edition) (now (buffer .entry)) (now (buffer .exit)) r ⌝ }
 {
     match checking::check(line) {
         Answer::Accepted(from) => recast_to(from, line, edition, buffer),
-        Answer::Refused(refusal) => Outcome::Unrecast(refusal),
+        Answer::Refused(refusal) => refused(refusal),
     }
 }

@@ -1,19 +1,16 @@
 -- The lines that more than one report has, in words. Assumes nothing.
 use Prim.Native.Nat.{ℕ}
-use mathlib.Core.Bool.{Bool, true, false}
 use mathlib.Core.List.{List, [], _∷_, _++_}
 use Rattle.text.specs.Bytes.{bytesOf}
 use Rattle.layout.specs.declared.Edition.{Edition}
-use Rattle.layout.specs.declared.Refusal.{Refusal}
+use Rattle.refusals.specs.declared.Refusal.{Refusal}
 use Rattle.layout.specs.Editions.{editionNumber}
-use Rattle.layout.specs.Refusals.{numberOf, placeOf}
-use Rattle.checking.specs.declared.Answer.{Answer}
-use Rattle.checking.specs.declared.Answer.the-variants.{Accepted, Refused}
+use Rattle.refusals.specs.Refusals.{numberOf, whereOf}
 use Rattle.wording.specs.Wording.{decimal, numbered, lineEnd}
 
 -- the line of a refused record: its count, 'refused', the number of the refusal and its place
 unfoldable pub refusedLine : ℕ → Refusal → List ℕ
-refusedLine n r = decimal n ++ numbered (bytesOf " refused ") (numberOf r) ++ numbered (bytesOf " ") (placeOf r) ++ lineEnd
+refusedLine n r = decimal n ++ numbered (bytesOf " refused ") (numberOf r) ++ numbered (bytesOf " ") (whereOf r) ++ lineEnd
 
 -- the line of an accepted record: its count, 'ok' and its edition
 unfoldable pub acceptedLine : ℕ → Edition → List ℕ
@@ -27,8 +24,3 @@ callSignLine n (b ∷ sign) = decimal n ++ bytesOf " call sign " ++ (b ∷ sign)
 -- the last line, which counts all records and the refused
 unfoldable pub totals : ℕ → ℕ → List ℕ
 totals n m = numbered (bytesOf "records ") n ++ numbered (bytesOf " refused ") m ++ lineEnd
-
--- whether an answer is a refusal
-abbrev pub isRefused : Answer → Bool
-isRefused (Accepted edition) = false
-isRefused (Refused r) = true

@@ -3,7 +3,7 @@
 // Each function answers the place right after what it put. What a report says of a record is put by a
 // crate of its own, which answers what is declared here.
 use layout::Edition;
-use layout::Refusal;
+use refusals::Refusal;
 use wording::put_number;
 use wording::put_numbered;
 use wording::put_text;

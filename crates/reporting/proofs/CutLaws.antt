@@ -8,7 +8,7 @@ use borrow.Author.Tests.{leb-true, leb-false, ltb-true, ltb-false, ne-eqb}
 use lib.Dec.{leb, ltb}
 use lib.ListN.{length, take, length-append}
 use lib.Seq.{take-all, take-append-le, length-take-le}
-use Rattle.layout.specs.declared.Refusal.the-variants.{Length}
+use Rattle.refusals.specs.declared.Refusal.the-variants.{Length}
 use Rattle.layout.specs.declared.Named.{Named}
 use Rattle.layout.specs.declared.Named.the-variants.{Unknown}
 use Rattle.report_lines.specs.Sentences.{refusedLine}

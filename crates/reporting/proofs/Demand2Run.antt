@@ -41,7 +41,7 @@ use Rattle.reporting.specs.Run.{
   saidOf,
   stateAfter,
   saidBy,
-  lastOf,
+  lastWords,
   hasRefused,
   endOf,
   closing,
@@ -80,7 +80,7 @@ module _ (l : Ledger) (held : List ℕ) (b : ℕ) (input : List ℕ) where
 
 -- what is said of lines from a ledger on, and the ledger after them
 toldFrom : Ledger → List (List ℕ) → List ℕ
-toldFrom l [] = lastOf l
+toldFrom l [] = lastWords l
 toldFrom l (line ∷ lines) = saidOf l line ++ toldFrom (ledgerAfter l line) lines
 
 afterFrom : Ledger → List (List ℕ) → Ledger
@@ -148,7 +148,7 @@ raised m = by (ltb m 18446744073709551615) refl
 -- the records, whatever the job: what is said from n records on, of which m were refused, is the report of the lines that are left
 module _ (job : Job) where
   records-told : (lines : List (List ℕ)) (n m : ℕ) → n + length lines < 2 ^ 64 → m ≤ n → toldFrom (ledger (Telling job) n m) lines ≡ recordsFrom job n m lines
-  unfolding toldFrom recordsFrom lastOf saidOf ledgerAfter
+  unfolding toldFrom recordsFrom lastWords saidOf ledgerAfter
   records-told [] n m h k = refl
   records-told (line ∷ lines) n m h k =
       let counted = more n (omega arith) in
@@ -174,7 +174,7 @@ module _ (job : Job) where
 
 -- after the refusal of an edition nothing is said
 closed-told : (lines : List (List ℕ)) (n m : ℕ) → (toldFrom (ledger Closed n m) lines ≡ []) × (afterFrom (ledger Closed n m) lines ≡ ledger Closed n m)
-unfolding toldFrom afterFrom lastOf saidOf ledgerAfter
+unfolding toldFrom afterFrom lastWords saidOf ledgerAfter
 closed-told [] n m = (refl, refl)
 closed-told (line ∷ lines) n m = closed-told lines n m
 
@@ -190,7 +190,7 @@ first-refused Unknown lines = rw (closed-told lines 0 0 .1)
 
 -- the lines of an input, from the stage that it begins in
 lines-told : (s : Stage) (lines : List (List ℕ)) → length lines < 2 ^ 64 → toldFrom (ledger s 0 0) lines ≡ reportOn s lines
-unfolding toldFrom lastOf saidOf ledgerAfter
+unfolding toldFrom lastWords saidOf ledgerAfter
 lines-told (Telling job) lines h = records-told job lines 0 0 (omega arith) (omega arith)
 lines-told Closed lines h = closed-told lines 0 0 .0
 lines-told Asking [] h = refl

@@ -11,7 +11,7 @@ use Rattle.wording.proofs.PutLaws.{also}
 use Rattle.reporting.specs.declared.Ledger.{Ledger}
 use Rattle.reporting.specs.declared.Run.{Run}
 use Rattle.reporting.specs.declared.Told.{Told}
-use Rattle.reporting.specs.Run.{state, ledgerAfter, saidOf, lastOf, hasRefused, endOf, closing, view}
+use Rattle.reporting.specs.Run.{state, ledgerAfter, saidOf, lastWords, hasRefused, endOf, closing, view}
 use Rattle.reporting.specs.Contracts.{Tells, Finishes, closingMost}
 use Rattle.reporting.proofs.KeepLaws.{take-min}
 
@@ -22,7 +22,7 @@ finish-short run before b h =
 
 -- a line of which something is held is told at the end
 closing-line : (l : Ledger) (held : List ℕ) → 0 < length held →
-    (closing (state l held) ≡ saidOf l held ++ lastOf (ledgerAfter l held)) × (endOf (state l held) ≡ ledgerAfter l held)
+    (closing (state l held) ≡ saidOf l held ++ lastWords (ledgerAfter l held)) × (endOf (state l held) ≡ ledgerAfter l held)
 unfolding closing endOf
 closing-line l [] h = absurd (omega arith)
 closing-line l (b ∷ held) h = (refl, refl)
@@ -32,7 +32,7 @@ module _ (run : Run) (long : length (run .held) ≡ 160) (n : ℕ) (e : n ≡ mi
   pub held-view : state (run .ledger) (take n (run .held)) ≡ view run
   held-view = ap (state (run .ledger)) (rw e (take-min (run .length) 160 (run .held) long))
 
-  closing-none : n ≡ 0 → (closing (view run) ≡ lastOf (run .ledger)) × (endOf (view run) ≡ run .ledger)
+  closing-none : n ≡ 0 → (closing (view run) ≡ lastWords (run .ledger)) × (endOf (view run) ≡ run .ledger)
   unfolding closing endOf
   closing-none z = (
     ap closing (sym held-view) ∙ ap (λ (k : ℕ). closing (state (run .ledger) (take k (run .held)))) z,
@@ -40,7 +40,7 @@ module _ (run : Run) (long : length (run .held) ≡ 160) (n : ℕ) (e : n ≡ mi
   )
 
   module _ {before after : List ℕ} {r : ℕ} {b : Bool} (room : closingMost ≤ length before) where
-    pub finish-none : n ≡ 0 → Puts (lastOf (run .ledger)) 0 before after r → b ≡ hasRefused (run .ledger) → r ≤ length before →
+    pub finish-none : n ≡ 0 → Puts (lastWords (run .ledger)) 0 before after r → b ≡ hasRefused (run .ledger) → r ≤ length before →
         Finishes run before after (record { written = r; refused = b })
     finish-none z p q h = record {
       room = h;
@@ -50,7 +50,7 @@ module _ (run : Run) (long : length (run .held) ≡ 160) (n : ℕ) (e : n ≡ mi
     }
 
     pub finish-line : {middle : List ℕ} {told : Told} → (n ≡ 0 → ⊥) → Tells (run .ledger) (take n (run .held)) 0 before middle told →
-        Puts (lastOf (told .ledger)) (told .end) middle after r → b ≡ hasRefused (told .ledger) → r ≤ length before →
+        Puts (lastWords (told .ledger)) (told .end) middle after r → b ≡ hasRefused (told .ledger) → r ≤ length before →
         Finishes run before after (record { written = r; refused = b })
     finish-line {middle} {told} z t p q h =
         let some : 0 < length (take n (run .held)) = omega (arith, length-take-le n (run .held) (omega arith)) in

@@ -18,7 +18,7 @@ use Rattle.reporting.specs.declared.Stage.the-variants.{Asking, Closed, 
 use Rattle.reporting.specs.declared.Ledger.{Ledger}
 use Rattle.reporting.specs.declared.Told.{Told}
 use Rattle.reporting.specs.Report.{saidFor, refusedFor, askedBy}
-use Rattle.reporting.specs.Run.{ledger, oneMore, opened, opening, refusedAfter, ledgerAfter, saidOf, lastIn, lastOf, hasRefusedIn, hasRefused}
+use Rattle.reporting.specs.Run.{ledger, oneMore, opened, opening, refusedAfter, ledgerAfter, saidOf, lastIn, lastWords, hasRefusedIn, hasRefused}
 use Rattle.reporting.specs.Contracts.{Tells}
 use Rattle.wording.proofs.PutLaws.{nothing}
 use Rattle.reporting.proofs.CutLaws.{said-cut, ledger-cut}
@@ -78,8 +78,8 @@ cut-tells l line t = record { next = t .next ∙ sym (ledger-cut l line); said =
 
 -- what is said last, by the stage
 pub stage-last : (l : Ledger) (s : Stage) → l .stage ≡ s → {at : ℕ} {before after : List ℕ} {end : ℕ} →
-    Puts (lastIn s (l .records) (l .refused)) at before after end → Puts (lastOf l) at before after end
-unfolding lastOf
+    Puts (lastIn s (l .records) (l .refused)) at before after end → Puts (lastWords l) at before after end
+unfolding lastWords
 stage-last l s e p = rw e p
 
 -- whether anything was refused, by the stage

@@ -90,8 +90,8 @@ lastIn Asking n m = notHeld
 lastIn Closed n m = []
 lastIn (Telling job) n m = totals n m
 
-unfoldable pub lastOf : Ledger → List ℕ
-lastOf l = lastIn (l .stage) (l .records) (l .refused)
+unfoldable pub lastWords : Ledger → List ℕ
+lastWords l = lastIn (l .stage) (l .records) (l .refused)
 
 abbrev pub hasRefusedIn : Stage → ℕ → Bool
 hasRefusedIn Asking m = true
@@ -110,8 +110,8 @@ unfoldable pub endOf : State → Ledger
 endOf s = endWith (s .ledger) (s .held)
 
 abbrev pub closingWith : Ledger → List ℕ → List ℕ
-closingWith l [] = lastOf l
-closingWith l (b ∷ held) = saidOf l (b ∷ held) ++ lastOf (ledgerAfter l (b ∷ held))
+closingWith l [] = lastWords l
+closingWith l (b ∷ held) = saidOf l (b ∷ held) ++ lastWords (ledgerAfter l (b ∷ held))
 
 unfoldable pub closing : State → List ℕ
 closing s = closingWith (s .ledger) (s .held)

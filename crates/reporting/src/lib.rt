@@ -16,7 +16,7 @@ ghost use lib.ListN.{length, take};
 ghost use Rattle.wording.specs.Puts.{Puts};
 ghost use Rattle.report_lines.specs.Says.{lineMost, recordMost, Says};
 ghost use Rattle.reporting.specs.Report.{saidFor, refusedFor, askedBy};
-ghost use Rattle.reporting.specs.Run.{start, view, ledger, oneMore, refusedAfter, lastOf, hasRefused};
+ghost use Rattle.reporting.specs.Run.{start, view, ledger, oneMore, refusedAfter, lastWords, hasRefused};
 ghost use Rattle.reporting.specs.Contracts.{Tells, Feeds, Finishes};
 
 // What is told of each record.
@@ -249,7 +249,7 @@ fn take_ended(
 // Puts what is said last, by the stage.
 fn put_last(ledger: Ledger, out: &mut [u8], at: usize) -> usize
     requires { ⌜ at + lineMost ≤ length (now out) ⌝ }
-    ensures { λ r. ⌜ Puts (lastOf ledger) at (now (out .entry)) (now (out .exit)) r ⌝ }
+    ensures { λ r. ⌜ Puts (lastWords ledger) at (now (out .entry)) (now (out .exit)) r ⌝ }
     ensures { λ r. ⌜ r ≤ at + lineMost ⌝ }
 {
     let stage = ledger.stage;

@@ -11,11 +11,11 @@ use lib.Dec.{eqb, leb, lit<}
 use lib.IntN.{natAbs}
 use lib.ListN.{length}
 use Rattle.text.specs.Bytes.{every, between, either, printable, blank, digits, number, word}
-use Rattle.text.specs.Texts.{among}
+use Rattle.text.specs.LegalTexts.{among}
 use Rattle.text.proofs.Among.{either-half}
 use Rattle.text.proofs.Ranges.{least, greatest}
 use Rattle.text.proofs.Ways.{and-first, and-second}
-use Rattle.numerals.specs.Spelling.{spelled, spell}
+use Rattle.numerals.specs.Numerals.{spelled, spell}
 use Rattle.numerals.proofs.Backs.{digits-back, blanks-back, bytes-back, spelled-beyond}
 use Rattle.layout.specs.declared.Edition.{Edition}
 use Rattle.layout.specs.Page.{element, page, widthOf}
@@ -51,7 +51,7 @@ module _ (ed : Edition) (e : ℕ) (t : List ℕ) (long : length t ≡ widthOf e)
       by false false z p q r = bytes-back (widthOf e) t long prints
 
 -- the sign that is written is the sign that was read: 1 and 6 stand with no zero
-digit-kept : (n m : ℕ) → either 0 2 5 7 n ≡ true → not (Ties.negative n && eqb m 0) ≡ true → signDigit (negative (signed (below n) m)) (kindOf n) ≡ n
+digit-kept : (n m : ℕ) → either 0 2 5 7 n ≡ true → not (Ties.minus n && eqb m 0) ≡ true → signDigit (negative (signed (below n) m)) (kindOf n) ≡ n
 digit-kept zero m p z = refl
 digit-kept (suc zero) zero p z = absurd (true≢false (sym z))
 digit-kept (suc zero) (suc m) p z = refl
@@ -71,7 +71,7 @@ module _ (ed : Edition) (s v : List ℕ) (tied : signTie s v ≡ true) where
   alike : blank v ≡ blank s
   alike = value-alike s v tied
 
-  no-minus-zero : not (Ties.negative (number s) && eqb (number v) 0) ≡ true
+  no-minus-zero : not (Ties.minus (number s) && eqb (number v) 0) ≡ true
   unfolding signTie
   no-minus-zero = and-second (Bool·beq (not (blank s)) (not (blank v))) _ tied
 

@@ -8,16 +8,16 @@ use native.Mathlib.Omega.{arith}
 use borrow.Author.Tests.{le-leb}
 use lib.Dec.{eqb, lit≤}
 use Rattle.text.specs.Bytes.{between, either, number}
-use Rattle.text.specs.declared.Texts.the-variants.{Within, Either}
-use Rattle.text.specs.Texts.{among, allows}
+use Rattle.text.specs.declared.LegalTexts.the-variants.{Within, Either}
+use Rattle.text.specs.LegalTexts.{among, allows}
 use Rattle.text.proofs.Ranges.{greatest}
 use Rattle.text.proofs.Among.{at-number, among-cases}
-use Rattle.numerals.specs.Spelling.{spell}
+use Rattle.numerals.specs.Numerals.{spell}
 use Rattle.layout.specs.declared.Edition.{Edition}
 use Rattle.layout.specs.declared.Edition.the-variants.{One, Three, Four}
 use Rattle.layout.specs.Editions.{lastOf}
-use Rattle.layout.specs.Page.{page, element, widthOf, textOf, textsOf, legal}
-use Rattle.places.proofs.DigitLaws.{stands, column-texts}
+use Rattle.layout.specs.Page.{page, element, widthOf, textOf, legalTexts, legal}
+use Rattle.places.proofs.DigitLaws.{isDigitOf, column-texts}
 use Rattle.ties.specs.Ties.{tie, signTie}
 use Rattle.checking.specs.Acceptable.{Acceptable}
 use Rattle.reading.specs.declared.Reading.{Reading}
@@ -32,7 +32,7 @@ use Rattle.spelling.proofs.BackLaws.{plain-back, sign-back, value-back,
 -- the legal texts of a sign, alike in every edition: 0 and 1 for the air and the sea, computed and iced too for the dew point and the wet bulb; and those of a
 -- temperature
 abbrev SignTexts : Edition → ℕ → Type 0
-SignTexts ed e = (textsOf ed e ≡ Within 0 1) ⊎ (textsOf ed e ≡ Either 0 2 5 7)
+SignTexts ed e = (legalTexts ed e ≡ Within 0 1) ⊎ (legalTexts ed e ≡ Either 0 2 5 7)
 
 pub sign-texts : (ed : Edition) (e : ℕ) → among 16 18 28 50 e ≡ true → SignTexts ed e
 unfolding element page
@@ -42,9 +42,9 @@ sign-texts ed e = among-cases (SignTexts ed) 16 18 28 50 e
     (inl (in-each ed 28 (Within 0 1) refl refl refl))
     (inr (in-each ed 50 (Either 0 2 5 7) refl refl refl))
 
-pub value-texts : (ed : Edition) (e : ℕ) → among 17 19 29 51 e ≡ true → textsOf ed e ≡ Within 0 999
+pub value-texts : (ed : Edition) (e : ℕ) → among 17 19 29 51 e ≡ true → legalTexts ed e ≡ Within 0 999
 unfolding element page
-value-texts ed e = among-cases (λ k. textsOf ed k ≡ Within 0 999) 17 19 29 51 e
+value-texts ed e = among-cases (λ k. legalTexts ed k ≡ Within 0 999) 17 19 29 51 e
     (in-each ed 17 (Within 0 999) refl refl refl)
     (in-each ed 19 (Within 0 999) refl refl refl)
     (in-each ed 29 (Within 0 999) refl refl refl)
@@ -55,7 +55,7 @@ module _ (ed : Edition) (xs : List ℕ) where
   abbrev Legal : ℕ → Type 0
   Legal e = legal ed xs e ≡ true
 
-  few-signs : (e : ℕ) → textsOf ed e ≡ Within 0 1 → Legal e → Holds (either 0 2 5 7) (textOf e xs)
+  few-signs : (e : ℕ) → legalTexts ed e ≡ Within 0 1 → Legal e → Holds (either 0 2 5 7) (textOf e xs)
   unfolding allows
   few-signs e f h = wider (in-digits (between 0 1) ed xs e (rw f) h)
     where
@@ -66,7 +66,7 @@ module _ (ed : Edition) (xs : List ℕ) where
       wider (empty b) = empty b
       wider (holds b d p) = holds b d (more (number (textOf e xs)) p)
 
-  all-signs : (e : ℕ) → textsOf ed e ≡ Either 0 2 5 7 → Legal e → Holds (either 0 2 5 7) (textOf e xs)
+  all-signs : (e : ℕ) → legalTexts ed e ≡ Either 0 2 5 7 → Legal e → Holds (either 0 2 5 7) (textOf e xs)
   unfolding allows
   all-signs e f h = in-digits (either 0 2 5 7) ed xs e (rw f) h
 
@@ -118,8 +118,8 @@ module _ (ed : Edition) (xs : List ℕ) (a : Acceptable ed xs) where
   hemisphere-back : Back 6
   unfolding itemOf tie
   hemisphere-back h =
-      digit-back ed (textOf 6 xs) (textOf 7 xs) (textOf 8 xs) (a .tied 1) (stands ed) (text-long ed xs (a .full) 6 h)
-      (in-digits (stands ed) ed xs 6 (column-texts ed (textOf 6 xs)) (a .lawful 6 (lit≤ tt) h))
+      digit-back ed (textOf 6 xs) (textOf 7 xs) (textOf 8 xs) (a .tied 1) (isDigitOf ed) (text-long ed xs (a .full) 6 h)
+      (in-digits (isDigitOf ed) ed xs 6 (column-texts ed (textOf 6 xs)) (a .lawful 6 (lit≤ tt) h))
 
   place-back : (e : ℕ) → among 7 8 7 8 e ≡ true → Back e
   unfolding itemOf tie element page

@@ -10,13 +10,13 @@ use lib.Dec.{eqb}
 use lib.IntN.{pos}
 use lib.ListN.{length}
 use Rattle.text.specs.Bytes.{every, between, either, blank, number, valueFrom}
-use Rattle.text.specs.declared.Texts.the-variants.{Within}
-use Rattle.text.specs.Texts.{among, allows}
+use Rattle.text.specs.declared.LegalTexts.the-variants.{Within}
+use Rattle.text.specs.LegalTexts.{among, allows}
 use Rattle.text.proofs.Among.{either-half}
 use Rattle.text.proofs.Ways.{and-first, and-second}
-use Rattle.numerals.specs.Spelling.{spelled, spell, inDigits, inBlanks}
+use Rattle.numerals.specs.Numerals.{spelled, spell, inDigits, inBlanks}
 use Rattle.layout.specs.declared.Edition.{Edition}
-use Rattle.layout.specs.Page.{element, page, widthOf, textsOf, mayBeBlank, legalText}
+use Rattle.layout.specs.Page.{element, page, widthOf, legalTexts, mayBeBlank, legalText}
 use Rattle.layout.proofs.Elements.{blank-legal, allowed-legal}
 use Rattle.layout.proofs.Holding.{Holds}
 use Rattle.ties.specs.Ties.{placeTie, signTie}
@@ -33,7 +33,7 @@ module _ (ed : Edition) (e f : ℕ) (s v t u : List ℕ) (g : among 16 18 28 50 
     (one : widthOf e ≡ 1) (three : widthOf f ≡ 3) (may-e : mayBeBlank e ≡ true) (may-f : mayBeBlank f ≡ true)
     (long-s : length s ≡ widthOf e) (long-v : length v ≡ widthOf f) (sign : Holds (either 0 2 5 7) s) (value : Holds (between 0 999) v)
     (lawful-s : legalText ed e s ≡ true) (lawful-v : legalText ed f v ≡ true)
-    (zero-sign : allows (textsOf ed e) (48 ∷ []) ≡ true) (five-sign : blank s ≡ false → number s ≡ 6 → allows (textsOf ed e) (53 ∷ []) ≡ true) (values : textsOf ed f ≡ Within 0 999)
+    (zero-sign : allows (legalTexts ed e) (48 ∷ []) ≡ true) (five-sign : blank s ≡ false → number s ≡ 6 → allows (legalTexts ed e) (53 ∷ []) ≡ true) (values : legalTexts ed f ≡ Within 0 999)
     (p : t ≡ spell (widthOf e) (numeralFor ed e (temperature s v))) (q : u ≡ spell (widthOf f) (numeralFor ed f (temperature s v))) where
   abbrev Kept : Type 0
   Kept = (legalText ed e t ≡ true) × ((legalText ed f u ≡ true) × (temperature t u ≡ temperature s v))
@@ -53,18 +53,18 @@ module _ (ed : Edition) (e f : ℕ) (s v t u : List ℕ) (g : among 16 18 28 50 
 
   -- zero is zero, with a minus or without
   as-zero : (m : Kind) (d : ℕ) → temperature s v ≡ Amount (pos 0) m → spell 1 (inDigits d) ≡ spell 1 (numeralFor ed e (Amount (pos 0) m)) →
-      allows (textsOf ed e) (spell 1 (inDigits d)) ≡ true → temperature (spell 1 (inDigits d)) (spell 3 (inDigits 0)) ≡ Amount (pos 0) m → Kept
+      allows (legalTexts ed e) (spell 1 (inDigits d)) ≡ true → temperature (spell 1 (inDigits d)) (spell 3 (inDigits 0)) ≡ Amount (pos 0) m → Kept
   unfolding numeralFor amountNumeral spelled allows valueFrom every
   as-zero m d r w a z =
       let t′ : t ≡ spell 1 (inDigits d) = p ∙ rw (one, r) (sym w) in
       let u′ : u ≡ spell 3 (inDigits 0) = q ∙ rw (three, r, n, k) in
       (allowed-legal ed e t (rw t′ a), (allowed-legal ed f u (rw (u′, values)), rw (t′, u′) (z ∙ sym r)))
 
-  both-there : blank s ≡ false → blank v ≡ false → (m : Bool) → (Ties.negative (number s) && eqb (number v) 0) ≡ m → Kept
+  both-there : blank s ≡ false → blank v ≡ false → (m : Bool) → (Ties.minus (number s) && eqb (number v) 0) ≡ m → Kept
   unfolding signTie temperature numeralFor amountNumeral spelled valueFrom every
   both-there a b false h = as-tied (rw (a, b, h))
   both-there a b true h =
-      let z : number v ≡ 0 = eqb-true _ _ (and-second (Ties.negative (number s)) _ h) in
+      let z : number v ≡ 0 = eqb-true _ _ (and-second (Ties.minus (number s)) _ h) in
       ⊎-elim
       (λ c. let d : number s ≡ 1 = eqb-true _ _ c in as-zero Measured 0 (rw (a, b, d, z)) (rw g) zero-sign refl)
       (λ c. let d : number s ≡ 6 = eqb-true _ _ c in as-zero Computed 5 (rw (a, b, d, z)) (rw g) (five-sign a d) refl)

@@ -6,7 +6,7 @@ use native.Mathlib.Omega.{arith}
 use lib.ListN.{length, take}
 use lib.Seq.{take-all}
 use Rattle.numerals.specs.declared.Numeral.{Numeral}
-use Rattle.numerals.specs.Spelling.{spell, placed}
+use Rattle.numerals.specs.Numerals.{spell, placed}
 use Rattle.numerals.proofs.PlacedLaws.{placed-to}
 use Rattle.numerals.proofs.Spellings.{spelled-length}
 use Rattle.layout.specs.declared.Edition.{Edition}

@@ -5,9 +5,9 @@ use Prim.Native.Nat.{ℕ, _+_, _≤_, _<_}
 use borrow.Author.Tests.{eq-eqb, ne-eqb}
 use lib.Dec.{eqb, lit≤, lit<}
 use lib.IntN.{ℤ, natAbs}
-use Rattle.text.specs.Texts.{among}
+use Rattle.text.specs.LegalTexts.{among}
 use Rattle.numerals.specs.declared.Numeral.{Numeral}
-use Rattle.numerals.specs.Spelling.{inDigits, inBytes, inBlanks}
+use Rattle.numerals.specs.Numerals.{inDigits, inBytes, inBlanks}
 use Rattle.layout.specs.declared.Edition.{Edition}
 use Rattle.places.specs.declared.Place.{Place}
 use Rattle.places.specs.Places.{latitudeFigure, longitudeFigure}

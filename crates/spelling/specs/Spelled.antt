@@ -5,9 +5,9 @@ use mathlib.Core.List.{List}
 use lib.Dec.{eqb}
 use lib.IntN.{ℤ, natAbs}
 use lib.ListN.{getD}
-use Rattle.text.specs.Texts.{among}
+use Rattle.text.specs.LegalTexts.{among}
 use Rattle.numerals.specs.declared.Numeral.{Numeral}
-use Rattle.numerals.specs.Spelling.{inDigits, inBytes, inBlanks, spell}
+use Rattle.numerals.specs.Numerals.{inDigits, inBytes, inBlanks, spell}
 use Rattle.layout.specs.declared.Edition.{Edition}
 use Rattle.layout.specs.Page.{widthOf}
 use Rattle.layout.specs.Records.{rowFrom, recordFrom}

@@ -15,7 +15,7 @@ ghost use mathlib.Core.Path.{_≡_};
 ghost use mathlib.Core.Bool.{cond};
 ghost use Prim.Native.Nat.{_≤_, _<_, _+_, _^_};
 ghost use lib.ListN.{length};
-ghost use Rattle.text.specs.Texts.{among};
+ghost use Rattle.text.specs.LegalTexts.{among};
 ghost use Rattle.reading.specs.Answers.{readings};
 ghost use Rattle.spelling.specs.Spelled.{signDigit, amountNumeral, placeNumeral, numeralFor, rowFor};
 ghost use Rattle.spelling.specs.Same.{kindNumber, partsOf, same};

@@ -5,7 +5,7 @@ use mathlib.Core.Bool.{Bool, true, false, _||_, true≢false}
 use Prim.Native.Nat.{ℕ}
 use borrow.Author.Tests.{eqb-true}
 use lib.Dec.{eqb}
-use Rattle.text.specs.Texts.{among}
+use Rattle.text.specs.LegalTexts.{among}
 
 -- which half of a test passed, and that both failed
 pub either-half : (x y : Bool) → (x || y) ≡ true → (x ≡ true) ⊎ (y ≡ true)

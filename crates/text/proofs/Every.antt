@@ -11,7 +11,7 @@ use lib.Dec.{eqb, eqb·suc-suc, eqb·zero-suc}
 use lib.ListN.{length, getD, take, drop, drop-of-length-le, length-drop}
 use lib.Seq.{drop-cons, take-all}
 use Rattle.text.specs.Bytes.{every, either, run, blank}
-use Rattle.text.specs.Texts.{isSign, callSign, digitOr}
+use Rattle.text.specs.LegalTexts.{isSign, callSign, digitOr}
 use Rattle.text.proofs.Ways.{and-first, and-second}
 
 module _ (p : ℕ → Bool) (xs : List ℕ) (i : ℕ) where

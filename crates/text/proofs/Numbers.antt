@@ -11,9 +11,9 @@ use lib.Dec.{eqb, lit<}
 use lib.ListN.{length, getD, drop, drop-of-length-le}
 use lib.Seq.{drop-cons}
 use Rattle.text.specs.Bytes.{valueFrom, number, isDigit, digits}
-use Rattle.text.specs.Texts.{among, numeralFrom, numeral}
-use Rattle.text.specs.declared.Numeral.{Numeral}
-use Rattle.text.specs.declared.Numeral.the-variants.{Digits, Other}
+use Rattle.text.specs.LegalTexts.{among, digitsFrom, digitsIn}
+use Rattle.text.specs.declared.Digits.{Digits}
+use Rattle.text.specs.declared.Digits.the-variants.{Number, Other}
 use Rattle.text.proofs.Every.{on, off, end}
 
 -- one byte more of a value in any base, and no more
@@ -35,33 +35,33 @@ below-seven n i h k = omega (arith, pow-le-pow-right {n = 10} (lit< tt) k)
 
 -- digits that go on from n, one that is none of them, and the end
 module _ (n : ℕ) (xs : List ℕ) (i : ℕ) where
-  pub digit-more : i < length xs → isDigit (getD xs i 0) ≡ true → numeralFrom n (drop i xs) ≡ numeralFrom (n * 10 + (getD xs i 0 - 48)) (drop (i + 1) xs)
-  unfolding numeralFrom
+  pub digit-more : i < length xs → isDigit (getD xs i 0) ≡ true → digitsFrom n (drop i xs) ≡ digitsFrom (n * 10 + (getD xs i 0 - 48)) (drop (i + 1) xs)
+  unfolding digitsFrom
   digit-more h d = rw (on isDigit xs i h d, more 10 48 n xs i h)
 
-  pub no-digit : i < length xs → isDigit (getD xs i 0) ≡ false → numeralFrom n (drop i xs) ≡ Other
-  unfolding numeralFrom
+  pub no-digit : i < length xs → isDigit (getD xs i 0) ≡ false → digitsFrom n (drop i xs) ≡ Other
+  unfolding digitsFrom
   no-digit h d = rw (off isDigit xs i h d)
 
-  pub digits-end : length xs ≤ i → numeralFrom n (drop i xs) ≡ Digits n
-  unfolding numeralFrom
+  pub digits-end : length xs ≤ i → digitsFrom n (drop i xs) ≡ Number n
+  unfolding digitsFrom
   digits-end h = rw (end isDigit xs i h, no-more 10 48 n xs i h)
 
 -- a test of the number that some bytes say, where they are digits and where they are not
-module _ (p : ℕ → Bool) (t : List ℕ) (m : Numeral) (e : m ≡ numeral t) where
-  pub with-digits : (n : ℕ) → m ≡ Digits n → (y : Bool) → y ≡ p n → y ≡ (digits t && p (number t))
-  unfolding numeralFrom
+module _ (p : ℕ → Bool) (t : List ℕ) (m : Digits) (e : m ≡ digitsIn t) where
+  pub with-digits : (n : ℕ) → m ≡ Number n → (y : Bool) → y ≡ p n → y ≡ (digits t && p (number t))
+  unfolding digitsFrom
   with-digits n d y f = f ∙ said (digits t) (number t) (sym d ∙ e)
     where
-      said : (b : Bool) (k : ℕ) → Digits n ≡ cond b (Digits k) Other → p n ≡ (b && p k)
+      said : (b : Bool) (k : ℕ) → Number n ≡ cond b (Number k) Other → p n ≡ (b && p k)
       said true k g = let h : n ≡ k = cc in ap p h
       said false k g = let z : _≡_ {A = ℕ} 0 1 = cc in absurd (omega arith)
 
   pub without-digits : m ≡ Other → false ≡ (digits t && p (number t))
-  unfolding numeralFrom
+  unfolding digitsFrom
   without-digits d = unsaid (digits t) (number t) (sym d ∙ e)
     where
-      unsaid : (b : Bool) (k : ℕ) → Other ≡ cond b (Digits k) Other → false ≡ (b && p k)
+      unsaid : (b : Bool) (k : ℕ) → Other ≡ cond b (Number k) Other → false ≡ (b && p k)
       unsaid true k g = let z : _≡_ {A = ℕ} 0 1 = cc in absurd (omega arith)
       unsaid false k g = refl
 

@@ -1,3 +1,3 @@
 pub mod Bytes
-pub mod Texts
+pub mod LegalTexts
 pub mod First

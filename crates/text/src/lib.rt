@@ -1,16 +1,16 @@
 // Tests on the bytes of some columns: are they blank, digits, a number within limits, a call sign?
 //
 // Every function takes the columns alone, as a part of the record. What a record's columns are is
-// the business of `layout`. The contracts cite `specs/Bytes.antt` and `specs/Texts.antt`.
+// the business of `layout`. The contracts cite `specs/Bytes.antt` and `specs/LegalTexts.antt`.
 ghost use mathlib.Core.Bool.{Bool·beq};
 ghost use mathlib.Core.Path.{_≡_};
 ghost use Prim.Native.Nat.{_≤_, _-_};
 ghost use lib.ListN.{length, take};
 ghost use Rattle.text.specs.Bytes.{every, between, either, blank, number, run, toLastNonBlank};
-ghost use Rattle.text.specs.Texts.{among, callSign, allows, numeral};
+ghost use Rattle.text.specs.LegalTexts.{among, callSign, allows, digitsIn};
 
 // The texts that an element may hold where it is not blank.
-pub enum Texts {
+pub enum LegalTexts {
     // none: the edition has no such element
     Nothing,
     // printable characters
@@ -30,8 +30,8 @@ pub enum Texts {
 }
 
 // What some bytes say, taken as a number.
-pub enum Numeral {
-    Digits(u32),
+pub enum Digits {
+    Number(u32),
     Other,
 }
 
@@ -119,10 +119,24 @@ pub fn is_among(n: u32, a: u32, b: u32, c: u32, d: u32) -> bool
 }
 
 // A byte as a number.
-fn wide(b: u8) -> u32
+fn value(b: u8) -> u32
     ensures { λ r. ⌜ r ≡ b ⌝ }
 {
     b as u32
+}
+
+// The same, as wide as a word is.
+pub fn byte(b: u8) -> u64
+    ensures { λ r. ⌜ (r ≡ b) × (r ≤ 255) ⌝ }
+{
+    b as u64
+}
+
+// A number that columns say, as wide as a word is.
+pub fn wide(n: u32) -> u64
+    ensures { λ r. ⌜ r ≡ n ⌝ }
+{
+    n as u64
 }
 
 // How many bytes at the front are from a to b or from c to d?
@@ -131,7 +145,7 @@ fn front(text: &[u8], a: u32, b: u32, c: u32, d: u32) -> usize
 {
     let mut i = 0;
     while i < text.len() {
-        if !is_either(wide(text[i]), a, b, c, d) {
+        if !is_either(value(text[i]), a, b, c, d) {
             return i;
         }
         i += 1;
@@ -155,79 +169,79 @@ fn is_call_sign(text: &[u8]) -> bool
 
 // Is every byte a digit, or x?
 fn is_digit_or(text: &[u8], x: u8) -> bool
-    ensures { λ r. ⌜ r ≡ allows (Texts.DigitOr x) (now (text .entry)) ⌝ }
+    ensures { λ r. ⌜ r ≡ allows (LegalTexts.DigitOr x) (now (text .entry)) ⌝ }
 {
-    front(text, 48, 57, wide(x), wide(x)) == text.len()
+    front(text, 48, 57, value(x), value(x)) == text.len()
 }
 
 // The number that up to seven bytes say, if they are digits.
-fn numeral_of(text: &[u8]) -> Numeral
+fn digits_in(text: &[u8]) -> Digits
     requires { ⌜ length (now text) ≤ 7 ⌝ }
-    ensures { λ r. ⌜ r ≡ numeral (now (text .entry)) ⌝ }
+    ensures { λ r. ⌜ r ≡ digitsIn (now (text .entry)) ⌝ }
 {
     let mut n: u32 = 0;
     let mut i = 0;
     while i < text.len() {
         let b = text[i];
         if b < 48 {
-            return Numeral::Other;
+            return Digits::Other;
         }
         if 57 < b {
-            return Numeral::Other;
+            return Digits::Other;
         }
-        n = n * 10 + wide(b - 48);
+        n = n * 10 + value(b - 48);
         i += 1;
     }
-    Numeral::Digits(n)
+    Digits::Number(n)
 }
 
 // Are these digits whose number is from a to b?
 fn is_within(text: &[u8], a: u32, b: u32) -> bool
     requires { ⌜ length (now text) ≤ 7 ⌝ }
-    ensures { λ r. ⌜ r ≡ allows (Texts.Within a b) (now (text .entry)) ⌝ }
+    ensures { λ r. ⌜ r ≡ allows (LegalTexts.Within a b) (now (text .entry)) ⌝ }
 {
-    match numeral_of(text) {
-        Numeral::Digits(n) => is_between(n, a, b),
-        Numeral::Other => false,
+    match digits_in(text) {
+        Digits::Number(n) => is_between(n, a, b),
+        Digits::Other => false,
     }
 }
 
 // Are these digits whose number is from a to b or from c to d?
 fn is_in_either(text: &[u8], a: u32, b: u32, c: u32, d: u32) -> bool
     requires { ⌜ length (now text) ≤ 7 ⌝ }
-    ensures { λ r. ⌜ r ≡ allows (Texts.Either a b c d) (now (text .entry)) ⌝ }
+    ensures { λ r. ⌜ r ≡ allows (LegalTexts.Either a b c d) (now (text .entry)) ⌝ }
 {
-    match numeral_of(text) {
-        Numeral::Digits(n) => is_either(n, a, b, c, d),
-        Numeral::Other => false,
+    match digits_in(text) {
+        Digits::Number(n) => is_either(n, a, b, c, d),
+        Digits::Other => false,
     }
 }
 
 // Are these digits whose number is one of four?
 fn is_one_of(text: &[u8], a: u32, b: u32, c: u32, d: u32) -> bool
     requires { ⌜ length (now text) ≤ 7 ⌝ }
-    ensures { λ r. ⌜ r ≡ allows (Texts.OneOf a b c d) (now (text .entry)) ⌝ }
+    ensures { λ r. ⌜ r ≡ allows (LegalTexts.OneOf a b c d) (now (text .entry)) ⌝ }
 {
-    match numeral_of(text) {
-        Numeral::Digits(n) => is_among(n, a, b, c, d),
-        Numeral::Other => false,
+    match digits_in(text) {
+        Digits::Number(n) => is_among(n, a, b, c, d),
+        Digits::Other => false,
     }
 }
 
 // Is the text one of these texts?
-pub fn is_one(texts: Texts, text: &[u8]) -> bool
+pub fn is_one(texts: LegalTexts, text: &[u8]) -> bool
     requires { ⌜ length (now text) ≤ 7 ⌝ }
     ensures { λ r. ⌜ r ≡ allows texts (now (text .entry)) ⌝ }
 {
     match texts {
-        Texts::Nothing => false,
-        Texts::Printable => all_between(text, 32, 126),
-        Texts::Letters => all_between(text, 65, 90),
-        Texts::CallSign => is_call_sign(text),
-        Texts::DigitOr(x) => is_digit_or(text, x),
-        Texts::Within(a, b) => is_within(text, a, b),
-        Texts::Either(a, b, c, d) => is_in_either(text, a, b, c, d),
-        Texts::OneOf(a, b, c, d) => is_one_of(text, a, b, c, d),
+        LegalTexts::Nothing => false,
+        LegalTexts::Printable => all_between(text, 32, 126),
+        LegalTexts::Letters => all_between(text, 65, 90),
+        LegalTexts::CallSign => is_call_sign(text),
+        LegalTexts::DigitOr(x) => is_digit_or(text, x),
+        LegalTexts::Within(a, b) => is_within(text, a, b),
+        LegalTexts::Either(a, b, c, d) => is_in_either(text, a, b, c, d),
+        LegalTexts::OneOf(a, b, c, d) => is_one_of(text, a, b, c, d),
     }
 }
 

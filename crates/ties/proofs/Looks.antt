@@ -28,8 +28,8 @@ looks =
     (2 ∷ 3 ∷ 4 ∷ []) ∷
     []
 
-abbrev pub elementsOf : ℕ → List ℕ
-elementsOf k = getD ([] ∷ looks) k []
+abbrev pub elementsIn : ℕ → List ℕ
+elementsIn k = getD ([] ∷ looks) k []
 
 module _ (ed : Edition) (xs ys : List ℕ) where
   -- the same texts in some elements
@@ -74,9 +74,9 @@ module _ (ed : Edition) (xs ys : List ℕ) where
       last
 
   -- where the texts of certain elements are the same, so is each tie that looks at no others
-  pub same-tie : (same : ℕ → Bool) → ((e : ℕ) → same e ≡ true → textOf e xs ≡ textOf e ys) → (k : ℕ) → every same (elementsOf k) ≡ true → tie ed xs k ≡ tie ed ys k
+  pub same-tie : (same : ℕ → Bool) → ((e : ℕ) → same e ≡ true → textOf e xs ≡ textOf e ys) → (k : ℕ) → every same (elementsIn k) ≡ true → tie ed xs k ≡ tie ed ys k
   unfolding tie every
-  same-tie same alike k h = agree-at ((λ s. refl) then all-agree) k (each (elementsOf k) h)
+  same-tie same alike k h = agree-at ((λ s. refl) then all-agree) k (each (elementsIn k) h)
     where
       each : (es : List ℕ) → every same es ≡ true → Alike es
       each [] h = none
@@ -91,6 +91,6 @@ same-in ed to xs (suc (suc zero)) h = absurd (true≢false h)
 same-in ed to xs (suc (suc (suc k))) h = refl
 
 -- what a test says of each tie by its elements, and of no elements, it says of every number
-pub of-each : (test : ℕ → Bool) → everyBelow (length ([] ∷ looks)) test ≡ true → ((k : ℕ) → elementsOf k ≡ [] → test k ≡ true) → (k : ℕ) → test k ≡ true
+pub of-each : (test : ℕ → Bool) → everyBelow (length ([] ∷ looks)) test ≡ true → ((k : ℕ) → elementsIn k ≡ [] → test k ≡ true) → (k : ℕ) → test k ≡ true
 of-each test h f k =
     decide (leb (length ([] ∷ looks)) k) (λ t. f k (List·getD-eq-default ([] ∷ looks) [] (leb-true _ k t))) (λ t. passes-below (length ([] ∷ looks)) test h k (leb-false _ k t))

@@ -9,8 +9,8 @@ use native.Mathlib.Nat.{le-trans}
 use borrow.Author.Tests.{leb-true, le-leb}
 use lib.Dec.{lit≤}
 use Rattle.text.specs.Bytes.{blank, digits, number}
-use Rattle.text.specs.Texts.{allows}
-use Rattle.text.specs.declared.Texts.the-variants.{Within}
+use Rattle.text.specs.LegalTexts.{allows}
+use Rattle.text.specs.declared.LegalTexts.the-variants.{Within}
 use Rattle.text.proofs.Among.{either-half}
 use Rattle.text.proofs.Ranges.{least, greatest}
 use Rattle.text.proofs.Ways.{and-second, second-holds, decide}
@@ -18,7 +18,7 @@ use Rattle.calendar.specs.Calendar.{leaps, lastDay, lastDayIn}
 use Rattle.calendar.proofs.Lengths.{at-most-31, leap-longest}
 use Rattle.calendar.proofs.Request3Calendar.{IsYear, IsMonth}
 use Rattle.layout.specs.declared.Edition.{Edition}
-use Rattle.layout.specs.Page.{element, page, textOf, textsOf, mayBeBlank, legal}
+use Rattle.layout.specs.Page.{element, page, textOf, legalTexts, mayBeBlank, legal}
 use Rattle.layout.proofs.Elements.{in-each}
 use Rattle.ties.specs.Ties.{latestDay, dayTie, tie}
 
@@ -63,7 +63,7 @@ module _ (year month day : List ℕ) where
     )
 
 -- what a legal text that is there says
-number-within : (ed : Edition) (xs : List ℕ) (e a b : ℕ) → mayBeBlank e ≡ true → textsOf ed e ≡ Within a b → legal ed xs e ≡ true → blank (textOf e xs) ≡ false →
+number-within : (ed : Edition) (xs : List ℕ) (e a b : ℕ) → mayBeBlank e ≡ true → legalTexts ed e ≡ Within a b → legal ed xs e ≡ true → blank (textOf e xs) ≡ false →
     (a ≤ number (textOf e xs)) × (number (textOf e xs) ≤ b)
 unfolding legal allows
 number-within ed xs e a b m t l f = let n = and-second (digits (textOf e xs)) _ (rw (m, t, f) at l) in (least a b _ n, greatest a b _ n)

@@ -12,7 +12,7 @@ use Rattle.text.specs.Bytes.{number}
 use Rattle.text.proofs.First.{Found, past-zero, found, same-found}
 use Rattle.text.proofs.Ways.{and-stops, and-goes-on, decide}
 use Rattle.places.specs.Places.{octantFits}
-use Rattle.ties.specs.Ties.{there, placeTie, negative, signTie, ties, tie, firstBroken}
+use Rattle.ties.specs.Ties.{there, placeTie, minus, signTie, ties, tie, firstBroken}
 use Rattle.layout.specs.declared.Edition.{Edition}
 
 -- two texts: both there or both blank
@@ -32,9 +32,9 @@ module _ (s t : List ℕ) (x y r : Bool) (e : x ≡ there s) (f : y ≡ there t)
   unfolding signTie
   sign-stops h = and-stops _ _ both _ h
 
-  pub sign-goes-on : r ≡ true → (m n : ℕ) (z : Bool) → m ≡ number s → n ≡ number t → z ≡ (negative m && eqb n 0) → not z ≡ signTie s t
+  pub sign-goes-on : r ≡ true → (m n : ℕ) (z : Bool) → m ≡ number s → n ≡ number t → z ≡ (minus m && eqb n 0) → not z ≡ signTie s t
   unfolding signTie
-  sign-goes-on h m n z k l o = and-goes-on _ _ both _ _ h (ap (λ (q : Bool). not q) (o ∙ ap (λ (q : ℕ). negative q && eqb n 0) k ∙ ap (λ (q : ℕ). negative (number s) && eqb q 0) l))
+  sign-goes-on h m n z k l o = and-goes-on _ _ both _ _ h (ap (λ (q : Bool). not q) (o ∙ ap (λ (q : ℕ). minus q && eqb n 0) k ∙ ap (λ (q : ℕ). minus (number s) && eqb q 0) l))
 
 pub octant-of : {q m : ℕ} (l n : ℕ) {r : Bool} → q ≡ m → l ≡ n → r ≡ octantFits q l → r ≡ octantFits m n
 octant-of {q} {m} l n e f g = g ∙ ap (λ (k : ℕ). octantFits k l) e ∙ ap (octantFits m) f

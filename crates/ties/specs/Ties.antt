@@ -27,11 +27,11 @@ octantTie Three digit longitude = true
 octantTie Four digit longitude = true
 
 -- 3 to 6. air, dew point, sea, wet bulb: sign and value both there or both blank; sign 1 or 6 not with 000
-abbrev pub negative : ℕ → Bool
-negative sign = eqb sign 1 || eqb sign 6
+abbrev pub minus : ℕ → Bool
+minus sign = eqb sign 1 || eqb sign 6
 
 unfoldable pub signTie : List ℕ → List ℕ → Bool
-signTie sign value = Bool·beq (there sign) (there value) && not (negative (number sign) && eqb (number value) 0)
+signTie sign value = Bool·beq (there sign) (there value) && not (minus (number sign) && eqb (number value) 0)
 
 -- 7. column 1 = 4 wants last temperature digit 0 or 5, 5 wants 0. It binds air and sea temperature, and dew point and wet bulb only with measured signs 0, 1, 2;
 -- with 5, 6, 7 any tenth is right. A temperature that is not there says 0

@@ -9,7 +9,7 @@ ghost use mathlib.Core.Bool.{Bool·beq, not, _&&_};
 ghost use Prim.Native.Nat.{_≤_};
 ghost use lib.Dec.{eqb};
 ghost use lib.ListN.{length};
-ghost use Rattle.ties.specs.Ties.{there, placeTie, octantTie, negative, signTie, lastDigit, tenthsFit, measuredFit, windTie, tie, firstBroken};
+ghost use Rattle.ties.specs.Ties.{there, placeTie, octantTie, minus, signTie, lastDigit, tenthsFit, measuredFit, windTie, tie, firstBroken};
 
 // Is the element filled?
 fn is_there(text: &[u8]) -> bool
@@ -48,7 +48,7 @@ fn octant_tie(edition: Edition, digit: &[u8], longitude: &[u8]) -> bool
 
 // Is it a minus before zeros?
 fn minus_zero(sign: u32, value: u32) -> bool
-    ensures { λ r. ⌜ r ≡ (negative sign && eqb value 0) ⌝ }
+    ensures { λ r. ⌜ r ≡ (minus sign && eqb value 0) ⌝ }
 {
     if sign == 1 {
         return value == 0;

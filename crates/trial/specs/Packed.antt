@@ -1,10 +1,11 @@
 -- The readings that packed numbers say, the numbers that say readings, and what showing a text leaves in a lent buffer. Assumes nothing.
 use Prim.Native.Nat.{ℕ, zero, suc, _+_, _-_, _*_}
 use mathlib.Core.Bool.{Bool, cond, _&&_}
-use mathlib.Core.List.{List, [], _∷_, _++_}
+use mathlib.Core.List.{List, [], _∷_}
 use lib.Dec.{eqb, leb}
 use lib.IntN.{ℤ, pos}
-use lib.ListN.{length, getD, drop}
+use lib.ListN.{length, getD}
+use Rattle.refusals.specs.Lent.{overwritten}
 use Rattle.layout.specs.Editions.{editionNumber}
 use Rattle.checking.specs.declared.Answer.{Answer}
 use Rattle.checking.specs.declared.Answer.the-variants.{Accepted, Refused}
@@ -71,8 +72,8 @@ abbrev pub room : List ℕ → List ℤ → Bool
 room numbers amounts = leb 404 (length numbers) && leb 101 (length amounts)
 
 abbrev pub laidIn : {A : Type 0} → Bool → List A → List A → List A
-laidIn fits laid before = cond fits (laid ++ drop (length laid) before) before
+laidIn fits laid before = cond fits (overwritten laid before) before
 
 -- a text at the front of a buffer that has room for it
 abbrev pub shownIn : List ℕ → List ℕ → List ℕ
-shownIn text before = cond (leb (length text) (length before)) (text ++ drop (length text) before) before
+shownIn text before = laidIn (leb (length text) (length before)) text before

@@ -12,7 +12,6 @@ use reading::Entry;
 use reading::Kind;
 use reading::Reading;
 use reading::Readings;
-use writing::Outcome;
 ghost use mathlib.Core.Path.{_≡_};
 ghost use mathlib.Core.Bool.{_&&_};
 ghost use mathlib.Core.List.{_++_};
@@ -20,9 +19,11 @@ ghost use Prim.Native.Nat.{_≤_};
 ghost use lib.Dec.{leb};
 ghost use lib.IntN.{pos};
 ghost use lib.ListN.{length, getD, drop};
-ghost use Rattle.checking.specs.Check.{checked, answerNumber, answerPlace, callSignOf};
+ghost use Rattle.refusals.specs.Verdicts.{verdictNumber, verdictPlace};
+ghost use Rattle.refusals.specs.Lent.{verdictIn, leftBy};
+ghost use Rattle.checking.specs.Check.{checked, answerVerdict, callSignOf};
 ghost use Rattle.reading.specs.Answers.{readOf, readings};
-ghost use Rattle.writing.specs.Written.{written, after, outcomeNumber, outcomePlace};
+ghost use Rattle.writing.specs.Written.{written};
 ghost use Rattle.trial.specs.Packed.{kindFrom, readingFrom, readingAt, entriesIn, packed, numbersOf, amountsOf, editionIn, room, laidIn, shownIn};
 
 // The numbers of a reading, the one with a sign last.
@@ -126,16 +127,17 @@ pub extern "C" fn trial_read(
     edition: &mut u64,
     place: &mut u64,
 ) -> u64
-    ensures { λ r. ⌜ r ≡ answerNumber (readOf (now (line .entry)) .answer) ⌝ }
+    ensures { λ r. ⌜ r ≡ verdictNumber (answerVerdict (readOf (now (line .entry)) .answer)) ⌝ }
     ensures { λ r. ⌜ now (numbers .exit) ≡ laidIn (room (now (numbers .entry)) (now (amounts .entry))) (numbersOf (readOf (now (line .entry)) .entries)) (now (numbers .entry)) ⌝ }
     ensures { λ r. ⌜ now (amounts .exit) ≡ laidIn (room (now (numbers .entry)) (now (amounts .entry))) (amountsOf (readOf (now (line .entry)) .entries)) (now (amounts .entry)) ⌝ }
     ensures { λ r. ⌜ now (edition .exit) ≡ editionIn (readOf (now (line .entry)) .answer) ⌝ }
-    ensures { λ r. ⌜ now (place .exit) ≡ answerPlace (readOf (now (line .entry)) .answer) ⌝ }
+    ensures { λ r. ⌜ now (place .exit) ≡ verdictPlace (answerVerdict (readOf (now (line .entry)) .answer)) ⌝ }
 {
     let all = reading::read(line);
     let answer = all.answer;
-    let number = answer.number();
-    let at = answer.place();
+    let verdict = answer.verdict();
+    let number = verdict.number();
+    let at = verdict.place();
     let held = edition_in(answer);
     if has_room(numbers, amounts) {
         put_all(all, numbers, amounts);
@@ -238,26 +240,6 @@ fn entries_of(numbers: &[u64], amounts: &[i64]) -> [Entry; 101]
     entries
 }
 
-// The number of the refusal, 0 where there is none.
-fn outcome_number(outcome: Outcome) -> u64
-    ensures { λ r. ⌜ r ≡ outcomeNumber outcome ⌝ }
-{
-    match outcome {
-        Outcome::Done => 0,
-        Outcome::Unwritten(refusal) => refusal.number(),
-    }
-}
-
-// The place that goes with it.
-fn outcome_place(outcome: Outcome) -> u64
-    ensures { λ r. ⌜ r ≡ outcomePlace outcome ⌝ }
-{
-    match outcome {
-        Outcome::Done => 0,
-        Outcome::Unwritten(refusal) => refusal.place(),
-    }
-}
-
 // Writes a record from 101 readings: the refusal's number, 0 on success, and its place. Success writes the
 // first 131 or 159 bytes of the buffer, a refusal none. Numbers that are not there are 0, so that a reading
 // without any is missing.
@@ -269,13 +251,13 @@ pub extern "C" fn trial_write(
     buffer: &mut [u8],
     place: &mut u64,
 ) -> u64
-    ensures { λ r. ⌜ r ≡ outcomeNumber (written (readings (entriesIn (now (numbers .entry)) (now (amounts .entry)))) edition (length (now (buffer .entry)))) ⌝ }
-    ensures { λ r. ⌜ now (place .exit) ≡ outcomePlace (written (readings (entriesIn (now (numbers .entry)) (now (amounts .entry)))) edition (length (now (buffer .entry)))) ⌝ }
-    ensures { λ r. ⌜ now (buffer .exit) ≡ after (readings (entriesIn (now (numbers .entry)) (now (amounts .entry)))) edition (now (buffer .entry)) ⌝ }
+    ensures { λ r. ⌜ r ≡ verdictNumber (verdictIn (length (now (buffer .entry))) (written (readings (entriesIn (now (numbers .entry)) (now (amounts .entry)))) edition)) ⌝ }
+    ensures { λ r. ⌜ now (place .exit) ≡ verdictPlace (verdictIn (length (now (buffer .entry))) (written (readings (entriesIn (now (numbers .entry)) (now (amounts .entry)))) edition)) ⌝ }
+    ensures { λ r. ⌜ now (buffer .exit) ≡ leftBy (written (readings (entriesIn (now (numbers .entry)) (now (amounts .entry)))) edition) (now (buffer .entry)) ⌝ }
 {
-    let outcome = writing::write(entries_of(numbers, amounts), edition, buffer);
-    let at = outcome_place(outcome);
-    let number = outcome_number(outcome);
+    let verdict = writing::write(entries_of(numbers, amounts), edition, buffer);
+    let at = verdict.place();
+    let number = verdict.number();
     *place = at;
     number
 }

@@ -4,7 +4,7 @@ use mathlib.Core.List.{List, [], _++_}
 use Prim.Native.Nat.{ℕ, _+_, _≤_}
 use native.Mathlib.Omega.{arith}
 use lib.ListN.{length, take, length-append}
-use Rattle.numerals.specs.Spelling.{placed}
+use Rattle.numerals.specs.Numerals.{placed}
 use Rattle.numerals.proofs.PlacedLaws.{placed-front, placed-none, placed-length, placed-twice}
 use Rattle.wording.specs.Puts.{Puts}
 

@@ -11,7 +11,7 @@ use lib.Dec.{ltb, lit<}
 use lib.ListN.{length, getD, drop, set, length-append, drop-of-length-le}
 use lib.Seq.{take-suc-set, drop-set-lt, drop-cons}
 use Rattle.numerals.proofs.PlacedLaws.{placed-none}
-use Rattle.numerals.specs.Spelling.{spelled, placed}
+use Rattle.numerals.specs.Numerals.{spelled, placed}
 use Rattle.text.specs.Bytes.{bytesOf}
 use Rattle.signs.specs.Signed.{negative}
 use lib.IntN.{ℤ, natAbs}

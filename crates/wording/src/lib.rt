@@ -5,7 +5,7 @@
 ghost use Prim.Native.Nat.{_+_, _≤_};
 ghost use mathlib.Core.Path.{_≡_};
 ghost use lib.ListN.{length};
-ghost use Rattle.numerals.specs.Spelling.{spelled, placed};
+ghost use Rattle.numerals.specs.Numerals.{spelled, placed};
 ghost use Rattle.wording.specs.Wording.{decimal, signedDecimal, numbered};
 ghost use Rattle.wording.specs.Puts.{Puts};
 

@@ -1,13 +1,14 @@
--- Demand 1: numbers are taken whole. A number past the columns is refused with 6 and does not wrap to one that fits; antt computes the outcome. Assumes nothing.
+-- Demand 1: numbers are taken whole. A number past the columns is refused with 6 and does not wrap to one that fits; antt computes what writing comes to. Assumes nothing.
 use mathlib.Core.Path.{_≡_, refl}
 use Prim.Native.Nat.{_-_}
 use lib.IntN.{negsuc}
 use Rattle.text.specs.First.{firstFrom}
 use Rattle.text.specs.Bytes.{every, valueFrom, run}
-use Rattle.text.specs.Texts.{allows}
-use Rattle.numerals.specs.Spelling.{spelled}
+use Rattle.text.specs.LegalTexts.{allows}
+use Rattle.numerals.specs.Numerals.{spelled}
 use Rattle.layout.specs.declared.Edition.the-variants.{Four}
-use Rattle.layout.specs.declared.Refusal.the-variants.{Illegal}
+use Rattle.refusals.specs.declared.Refusal.the-variants.{Illegal}
+use Rattle.refusals.specs.Lent.{refusing}
 use Rattle.layout.specs.Page.{element, page, columns, startOf, textOf, legal}
 use Rattle.layout.specs.Records.{rowFrom, recordFrom}
 use Rattle.places.specs.Places.{south, west, octantFits, placeAt, latitudeFigure, longitudeFigure}
@@ -18,12 +19,11 @@ use Rattle.reading.specs.declared.Reading.the-variants.{Code, Text, Amount}
 use Rattle.reading.specs.Readings.{plain, temperature, departure, placeOf, itemOf}
 use Rattle.spelling.specs.Same.{partsOf, same}
 use Rattle.spelling.specs.Spelled.{amountNumeral, placeNumeral, numeralFor, recordOf}
-use Rattle.writing.specs.declared.Outcome.the-variants.{Unwritten}
 use Rattle.writing.specs.Written.{writes, writtenIn}
 use Rattle.writing.proofs.Demand2TiesBroken.{missing, said, of-edition}
 
 -- 2 to the 32 and 3 is no month, though its last 32 bits are 3
-pub whole-code : writtenIn Four (said 3 (Code 4294967299) (of-edition 3 4)) 159 ≡ Unwritten (Illegal 3)
+pub whole-code : writtenIn Four (said 3 (Code 4294967299) (of-edition 3 4)) ≡ refusing (Illegal 3)
 unfolding writtenIn missing said recordOf recordFrom rowFrom spelled numeralFor amountNumeral placeNumeral writes legal allows every valueFrom textOf startOf columns element page tie firstFrom itemOf plain temperature placeOf departure south west placeAt latitudeFigure longitudeFigure same partsOf octantTie octantFits placeTie signTie digitTie lastDigit windTie
 whole-code = refl
 
@@ -31,11 +31,11 @@ whole-code = refl
 abbrev pub farthest : Reading
 farthest = Amount (negsuc 9223372036854775807) Measured
 
-pub whole-amount : writtenIn Four (said 16 farthest (said 17 farthest (of-edition 3 4))) 159 ≡ Unwritten (Illegal 16)
+pub whole-amount : writtenIn Four (said 16 farthest (said 17 farthest (of-edition 3 4))) ≡ refusing (Illegal 16)
 unfolding writtenIn missing said recordOf recordFrom rowFrom spelled numeralFor amountNumeral placeNumeral writes legal allows every valueFrom textOf startOf columns element page tie firstFrom itemOf plain temperature placeOf departure south west placeAt latitudeFigure longitudeFigure same partsOf octantTie octantFits placeTie signTie digitTie lastDigit windTie
 whole-amount = refl
 
 -- the greatest text there is
-pub whole-text : writtenIn Four (said 42 (Text 18446744073709551615) (of-edition 3 4)) 159 ≡ Unwritten (Illegal 42)
+pub whole-text : writtenIn Four (said 42 (Text 18446744073709551615) (of-edition 3 4)) ≡ refusing (Illegal 42)
 unfolding writtenIn missing said recordOf recordFrom rowFrom spelled numeralFor amountNumeral placeNumeral writes legal allows every valueFrom textOf startOf columns element page tie firstFrom itemOf plain temperature placeOf departure south west placeAt latitudeFigure longitudeFigure same partsOf octantTie octantFits placeTie signTie digitTie lastDigit windTie run
 whole-text = refl

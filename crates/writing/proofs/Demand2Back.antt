@@ -1,13 +1,16 @@
 -- Demand 2: reading a record and writing it back gives the same characters. Assumes nothing.
 use mathlib.Core.Path.{_≡_, ap, _∙_}
 use mathlib.Core.Bool.{true}
-use mathlib.Core.List.{List, _++_}
+use mathlib.Core.List.{List}
 use Prim.Native.Nat.{ℕ, _+_, _-_, _≤_}
 use native.Mathlib.Omega.{arith}
-use lib.ListN.{length, drop}
-use Rattle.numerals.specs.Spelling.{spell}
+use lib.ListN.{length}
+use Rattle.numerals.specs.Numerals.{spell}
 use Rattle.layout.specs.declared.Edition.{Edition}
 use Rattle.layout.specs.declared.Named.the-variants.{Known}
+use Rattle.refusals.specs.declared.Verdict.the-variants.{Fine}
+use Rattle.refusals.specs.Lent.{writing, verdictIn, overwritten, leftBy, quiet}
+use Rattle.refusals.proofs.LentLaws.{has-room}
 use Rattle.layout.specs.Editions.{asked, lengthOf, lastOf}
 use Rattle.layout.specs.Page.{widthOf, textOf}
 use Rattle.layout.proofs.Elements.{last-below}
@@ -26,8 +29,7 @@ use Rattle.spelling.specs.Spelled.{numeralFor, given, recordOf}
 use Rattle.spelling.proofs.SameLaws.{same-self}
 use Rattle.spelling.proofs.RecordLaws.{record-long, record-text}
 use Rattle.spelling.proofs.ElementLaws.{element-back}
-use Rattle.writing.specs.declared.Outcome.the-variants.{Done}
-use Rattle.writing.specs.Written.{writes, writtenIn, writtenAs, written, filledBy, afterAs, after}
+use Rattle.writing.specs.Written.{writes, writtenIn, writtenAs, written}
 use Rattle.layout.proofs.RecordLaws.{same-record}
 use Rattle.writing.proofs.DoneLaws.{means-done}
 
@@ -47,25 +49,22 @@ module _ (ed : Edition) (xs : List ℕ) (a : Acceptable ed xs) (rs : List Readin
   unfolding writes
   each-written e l h = rw (all-legal ed xs a e l, as-read e l h) (same-self (readingOf ed xs e))
 
-  -- written to its own edition, where there is room, they are taken, and the record is the one that was read
-  pub written-back : (room : ℕ) → lengthOf ed ≤ room → writtenIn ed rs room ≡ Done
-  written-back room h = means-done ed rs room
+  -- written to its own edition, they are taken, and the record is the one that was read
+  pub written-back : writtenIn ed rs ≡ writing quiet xs
+  written-back =
+      means-done ed rs
       (λ e l m. ap (λ (ys : List ℕ). writes ed rs ys e) record-back ∙ each-written e l (omega arith))
       (λ k. ap (λ (ys : List ℕ). tie ed ys k) record-back ∙ a .tied k)
-      h
+      ∙ ap (writing quiet) record-back
 
-  -- the lent buffer then begins with the record's characters, and the rest of it is what it was
-  pub buffer-back : (edition : ℕ) → asked edition ≡ Known ed → (before : List ℕ) → lengthOf ed ≤ length before → after rs edition before ≡ xs ++ drop (lengthOf ed) before
-  unfolding afterAs filledBy
-  buffer-back edition e before h = rw (e, written-back (length before) h, record-back)
-
--- the same of the calls: what is read of an accepted record is written to its own edition where there is room
+-- the same of the calls: what is read of an accepted record is written to its own edition where there is room. The lent buffer then begins with the record's
+-- characters, and the rest of it is what it was
 pub read-and-written-back : (ed : Edition) (xs : List ℕ) → checked xs ≡ Accepted ed →
     (edition : ℕ) → asked edition ≡ Known ed → (before : List ℕ) → lengthOf ed ≤ length before →
-    (written (readings (readOf xs .entries)) edition (length before) ≡ Done) × (after (readings (readOf xs .entries)) edition before ≡ xs ++ drop (lengthOf ed) before)
+    (verdictIn (length before) (written (readings (readOf xs .entries)) edition) ≡ Fine) × (leftBy (written (readings (readOf xs .entries)) edition) before ≡ overwritten xs before)
 unfolding writtenAs
 read-and-written-back ed xs accepted edition names before room =
     let a = accepted-exactly xs ed .0 accepted in
-    let rs = readings (readOf xs .entries) in
-    let as-read = reads-each ed xs accepted in
-    (rw names (written-back ed xs a rs as-read (length before) room), buffer-back ed xs a rs as-read edition names before room)
+    let back = written-back ed xs a (readings (readOf xs .entries)) (reads-each ed xs accepted) in
+    let fits = has-room quiet xs (length before) (omega (arith, a .full)) in
+    (rw (names, back, fits), rw (names, back, fits))

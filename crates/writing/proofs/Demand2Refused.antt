@@ -8,11 +8,12 @@ use native.Mathlib.Nat.{le-refl, eq-or-lt-of-le}
 use native.Mathlib.Omega.{arith}
 use borrow.Author.Tests.{leb-true, leb-false}
 use lib.Dec.{leb, lit≤}
-use Rattle.text.specs.Texts.{among}
+use Rattle.text.specs.LegalTexts.{among}
 use Rattle.text.proofs.Ways.{and-first, and-second}
 use Rattle.text.proofs.Among.{among-cases}
 use Rattle.layout.specs.declared.Edition.{Edition}
-use Rattle.layout.specs.declared.Refusal.the-variants.{Illegal}
+use Rattle.refusals.specs.declared.Refusal.the-variants.{Illegal}
+use Rattle.refusals.specs.Lent.{Call, refusing, Quiet}
 use Rattle.layout.specs.Page.{legal}
 use Rattle.reading.specs.declared.Reading.{Reading}
 use Rattle.reading.specs.Readings.{lead, readingOf}
@@ -21,12 +22,10 @@ use Rattle.spelling.specs.Same.{same}
 use Rattle.spelling.specs.Spelled.{given, recordOf}
 use Rattle.spelling.proofs.SameLaws.{same-equal}
 use Rattle.spelling.proofs.RecordLaws.{record-long}
-use Rattle.writing.specs.declared.Outcome.{Outcome}
-use Rattle.writing.specs.declared.Outcome.the-variants.{Unwritten}
-use Rattle.writing.specs.Written.{writes, writtenIn, outcomeNumber, outcomePlace}
+use Rattle.writing.specs.Written.{writes, writtenIn}
 use Rattle.writing.specs.Givable.{Givable, Ungivable}
 use Rattle.writing.proofs.GivableLaws.{given-writes}
-use Rattle.writing.proofs.DoneLaws.{WritesBelow, Judged, unwritable, breaking, cramped, kept, judged}
+use Rattle.writing.proofs.DoneLaws.{WritesBelow, Judged, unwritable, breaking, kept, judged}
 
 -- a higher element shares its reading with no lower one than a lower element does
 abbrev Rises : ℕ → Type 0
@@ -87,20 +86,18 @@ module _ (ed : Edition) (rs : List Reading) where
       by false y p q = absurd (b .none (a .earlier k (b .low) (leb-false _ _ p)))
       by true false p q = absurd (a .none (b .earlier j (a .low) (leb-false _ _ q)))
 
-  pub refused-exactly : (k room : ℕ) → (writtenIn ed rs room ≡ Unwritten (Illegal k)) ↔ Ungivable ed rs k
-  refused-exactly k room = (λ e. to _ (judged ed rs room) e, λ u. from u _ (judged ed rs room))
+  pub refused-exactly : (k : ℕ) → (writtenIn ed rs ≡ refusing (Illegal k)) ↔ Ungivable ed rs k
+  refused-exactly k = (λ e. to _ (judged ed rs) e, λ u. from u _ (judged ed rs))
     where
-      to : (o : Outcome) → Judged ed rs room o → o ≡ Unwritten (Illegal k) → Ungivable ed rs k
-      to o (unwritable m a b x below) e = rw (sym (ap outcomePlace e)) (lowest-ungivable m a (omega arith) x below)
-      to o (breaking f m x g) e = let z = ap outcomeNumber e in absurd (omega arith)
-      to o (cramped f g h) e = let z = ap outcomeNumber e in absurd (omega arith)
-      to o (kept f g h) e = let z = ap outcomeNumber e in absurd (omega arith)
+      to : (c : Call Quiet) → Judged ed rs c → c ≡ refusing (Illegal k) → Ungivable ed rs k
+      to c (unwritable m a b x below) e = let here : k ≡ lead m = cc in rw here (lowest-ungivable m a (omega arith) x below)
+      to c (breaking f m x g) e = let z : _≡_ {A = ℕ} 0 1 = cc in absurd (omega arith)
+      to c (kept f g) e = let z : _≡_ {A = ℕ} 0 1 = cc in absurd (omega arith)
 
       no-more : Ungivable ed rs k → WritesBelow ed rs (1 + 101) → ⊥
       no-more u f = u .none (by-record k (λ e l h s. f e l (omega arith)))
 
-      from : Ungivable ed rs k → (o : Outcome) → Judged ed rs room o → o ≡ Unwritten (Illegal k)
-      from u o (unwritable m a b x below) = ap (λ (p : ℕ). Unwritten (Illegal p)) (only-one (lead m) k (lowest-ungivable m a (omega arith) x below) u)
-      from u o (breaking f m x g) = absurd (no-more u f)
-      from u o (cramped f g h) = absurd (no-more u f)
-      from u o (kept f g h) = absurd (no-more u f)
+      from : Ungivable ed rs k → (c : Call Quiet) → Judged ed rs c → c ≡ refusing (Illegal k)
+      from u c (unwritable m a b x below) = ap (λ (p : ℕ). refusing (Illegal p)) (only-one (lead m) k (lowest-ungivable m a (omega arith) x below) u)
+      from u c (breaking f m x g) = absurd (no-more u f)
+      from u c (kept f g) = absurd (no-more u f)

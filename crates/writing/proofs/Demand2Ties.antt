@@ -11,13 +11,14 @@ use lib.Dec.{eqb, lit≤}
 use lib.IntN.{pos}
 use lib.ListN.{length}
 use Rattle.text.specs.Bytes.{every, blank, number, valueFrom}
-use Rattle.text.specs.Texts.{among, member}
+use Rattle.text.specs.LegalTexts.{among, member}
 use Rattle.text.proofs.Among.{either-half, at-number, among-cases}
 use Rattle.text.proofs.Below.{everyBelow, passes-below}
 use Rattle.text.proofs.Ways.{and-first, and-second, decide}
-use Rattle.numerals.specs.Spelling.{spelled, spell, inDigits, inBlanks}
+use Rattle.numerals.specs.Numerals.{spelled, spell, inDigits, inBlanks}
 use Rattle.layout.specs.declared.Edition.{Edition}
-use Rattle.layout.specs.declared.Refusal.the-variants.{Broken}
+use Rattle.refusals.specs.declared.Refusal.the-variants.{Broken}
+use Rattle.refusals.specs.Lent.{Call, refusing, Quiet}
 use Rattle.layout.specs.Page.{element, page, widthOf, textOf}
 use Rattle.layout.proofs.Beyond.{last-above}
 use Rattle.ties.specs.Ties.{placeTie, signTie, tie}
@@ -29,11 +30,9 @@ use Rattle.reading.specs.declared.Reading.{Reading}
 use Rattle.reading.specs.declared.Reading.the-variants.{Missing, Amount}
 use Rattle.reading.specs.Readings.{temperature, placeOf, itemOf, readingOf}
 use Rattle.spelling.specs.Spelled.{amountNumeral, numeralFor, recordOf}
-use Rattle.writing.specs.declared.Outcome.{Outcome}
-use Rattle.writing.specs.declared.Outcome.the-variants.{Unwritten}
-use Rattle.writing.specs.Written.{writes, writtenIn, outcomeNumber, outcomePlace}
+use Rattle.writing.specs.Written.{writes, writtenIn}
 use Rattle.writing.proofs.EachLaws.{own-text}
-use Rattle.writing.proofs.DoneLaws.{Judged, unwritable, breaking, cramped, kept, judged}
+use Rattle.writing.proofs.DoneLaws.{Judged, unwritable, breaking, kept, judged}
 
 -- the ties within a reading, which says one thing of a place or of a temperature; and those between readings
 abbrev pub within-readings : ℕ → Bool
@@ -56,11 +55,11 @@ module _ (ed : Edition) (e f : ℕ) (s v : List ℕ) (g : among 16 18 28 50 e �
   no-minus : (k : Kind) (n : ℕ) → temperature s v ≡ Amount (pos 0) k → spell 1 (inDigits n) ≡ spell 1 (numeralFor ed e (Amount (pos 0) k)) → number s ≡ number (spell 1 (inDigits n))
   no-minus k n m t = ap number (p ∙ rw (one, m) (sym t))
 
-  both-there : blank s ≡ false → blank v ≡ false → (m : Bool) → (Ties.negative (number s) && eqb (number v) 0) ≡ m → signTie s v ≡ true
+  both-there : blank s ≡ false → blank v ≡ false → (m : Bool) → (Ties.minus (number s) && eqb (number v) 0) ≡ m → signTie s v ≡ true
   unfolding signTie temperature numeralFor amountNumeral spelled valueFrom
   both-there a b false h = rw (a, b, h)
   both-there a b true h =
-      let z : number v ≡ 0 = eqb-true _ _ (and-second (Ties.negative (number s)) _ h) in
+      let z : number v ≡ 0 = eqb-true _ _ (and-second (Ties.minus (number s)) _ h) in
       absurd (⊎-elim
       (λ k. let n : number s ≡ 1 = eqb-true _ _ k in let o = no-minus Measured 0 (rw (a, b, n, z)) (rw g) in omega arith)
       (λ k. let n : number s ≡ 6 = eqb-true _ _ k in let o = no-minus Computed 5 (rw (a, b, n, z)) (rw g) in omega arith)
@@ -139,13 +138,13 @@ module _ (ed : Edition) (xs : List ℕ) where
       (either-half (within-readings (suc k)) _ (passes-below (length (Ties.ties ed xs)) (λ k. within-readings (suc k) || member (suc k) between-readings) either-kind k (broken-listed ed xs (suc k) x)))
 
 -- write breaks no tie but those between readings
-pub breaks-only : (ed : Edition) (rs : List Reading) (room k : ℕ) → writtenIn ed rs room ≡ Unwritten (Broken k) → member k between-readings ≡ true
-breaks-only ed rs room k e = by _ (judged ed rs room) e
+pub breaks-only : (ed : Edition) (rs : List Reading) (k : ℕ) → writtenIn ed rs ≡ refusing (Broken k) → member k between-readings ≡ true
+breaks-only ed rs k e = by _ (judged ed rs) e
   where
-    by : (o : Outcome) → Judged ed rs room o → o ≡ Unwritten (Broken k) → member k between-readings ≡ true
-    by o (unwritable m a b x f) z = let n = ap outcomeNumber z in absurd (omega arith)
-    by o (breaking f m x g) z =
-        ap (λ (n : ℕ). member n between-readings) (sym (ap outcomePlace z)) ∙
+    by : (c : Call Quiet) → Judged ed rs c → c ≡ refusing (Broken k) → member k between-readings ≡ true
+    by c (unwritable m a b x f) e = let z : _≡_ {A = ℕ} 0 1 = cc in absurd (omega arith)
+    by c (breaking f m x g) e =
+        let here : k ≡ m = cc in
+        ap (λ (n : ℕ). member n between-readings) here ∙
         decide (within-readings m) (λ s. absurd (true≢false (sym (ties-kept ed rs f m s) ∙ x))) (other-kind ed (recordOf ed rs) m x)
-    by o (cramped f g h) z = let n = ap outcomeNumber z in absurd (omega arith)
-    by o (kept f g h) z = let n = ap outcomeNumber z in absurd (omega arith)
+    by c (kept f g) e = let z : _≡_ {A = ℕ} 0 1 = cc in absurd (omega arith)

@@ -1,4 +1,4 @@
--- Demand 2: readings that break each tie between readings, and could be written but for it; antt computes the outcome. Assumes nothing.
+-- Demand 2: readings that break each tie between readings, and could be written but for it; antt computes what writing comes to. Assumes nothing.
 use mathlib.Core.Path.{_≡_, refl}
 use mathlib.Core.List.{List, [], _∷_, map}
 use Prim.Native.Nat.{ℕ, zero, suc, _-_}
@@ -6,11 +6,12 @@ use lib.IntN.{pos}
 use lib.ListN.{set}
 use Rattle.text.specs.First.{firstFrom}
 use Rattle.text.specs.Bytes.{every, valueFrom}
-use Rattle.text.specs.Texts.{allows}
-use Rattle.numerals.specs.Spelling.{spelled}
+use Rattle.text.specs.LegalTexts.{allows}
+use Rattle.numerals.specs.Numerals.{spelled}
 use Rattle.calendar.specs.Calendar.{leaps, lastDay}
 use Rattle.layout.specs.declared.Edition.the-variants.{One, Three, Four}
-use Rattle.layout.specs.declared.Refusal.the-variants.{Broken}
+use Rattle.refusals.specs.declared.Refusal.the-variants.{Broken}
+use Rattle.refusals.specs.Lent.{Call, refusing, Quiet}
 use Rattle.layout.specs.Page.{element, page, columns, startOf, textOf, legal}
 use Rattle.layout.specs.Records.{rowFrom, recordFrom}
 use Rattle.places.specs.Places.{south, west, octantFits, placeAt, latitudeFigure, longitudeFigure}
@@ -21,8 +22,6 @@ use Rattle.reading.specs.declared.Reading.the-variants.{Missing, Code, Amount, 
 use Rattle.reading.specs.Readings.{plain, temperature, departure, placeOf, itemOf}
 use Rattle.spelling.specs.Same.{partsOf, same}
 use Rattle.spelling.specs.Spelled.{amountNumeral, placeNumeral, numeralFor, recordOf}
-use Rattle.writing.specs.declared.Outcome.{Outcome}
-use Rattle.writing.specs.declared.Outcome.the-variants.{Unwritten}
 use Rattle.writing.specs.Written.{writes, writtenIn}
 use Rattle.writing.proofs.Demand2Ties.{between-readings}
 
@@ -42,19 +41,19 @@ abbrev pub far-west : Reading
 far-west = At (record { latitude = pos 1000; longitude = 26000; digit = 0 })
 
 -- readings that could be written but for a tie, one case for each tie between readings
-abbrev pub broken-each : List Outcome
+abbrev pub broken-each : List (Call Quiet)
 broken-each =
-    writtenIn One (said 6 far-west (said 7 far-west (said 8 far-west (of-edition 3 1)))) 131 ∷
+    writtenIn One (said 6 far-west (said 7 far-west (said 8 far-west (of-edition 3 1)))) ∷
     -- a temperature of 0.3 degrees, where column 1 says half degrees
-    writtenIn Three (said 16 (Amount (pos 3) Measured) (said 17 (Amount (pos 3) Measured) (of-edition 4 3))) 159 ∷
+    writtenIn Three (said 16 (Amount (pos 3) Measured) (said 17 (Amount (pos 3) Measured) (of-edition 4 3))) ∷
     -- a wind speed, and a relative one, with no word of how it was measured
-    writtenIn Four (said 15 (Code 5) (of-edition 3 4)) 159 ∷
-    writtenIn Four (said 93 (Code 5) (of-edition 3 4)) 159 ∷
+    writtenIn Four (said 15 (Code 5) (of-edition 3 4)) ∷
+    writtenIn Four (said 93 (Code 5) (of-edition 3 4)) ∷
     -- a 31st of June
-    writtenIn Four (said 3 (Code 6) (said 4 (Code 31) (of-edition 3 4))) 159 ∷
+    writtenIn Four (said 3 (Code 6) (said 4 (Code 31) (of-edition 3 4))) ∷
     []
 
 -- each of those ties can be broken
-pub breaks-each : broken-each ≡ map (λ k. Unwritten (Broken k)) between-readings
+pub breaks-each : broken-each ≡ map (λ k. refusing (Broken k)) between-readings
 unfolding writtenIn missing said recordOf recordFrom rowFrom spelled numeralFor amountNumeral placeNumeral writes legal allows every valueFrom textOf startOf columns element page tie firstBroken firstFrom itemOf plain temperature placeOf departure south west placeAt latitudeFigure longitudeFigure same partsOf octantTie octantFits placeTie signTie digitTie lastDigit windTie dayTie latestDay leaps lastDay
 breaks-each = refl

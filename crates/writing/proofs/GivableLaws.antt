@@ -9,18 +9,18 @@ use borrow.Author.Tests.{leb-true, leb-false}
 use lib.Dec.{eqb, leb, lit≤}
 use lib.ListN.{length}
 use Rattle.text.specs.Bytes.{every, between, blank, number, valueFrom}
-use Rattle.text.specs.declared.Texts.the-variants.{Within}
-use Rattle.text.specs.Texts.{among, allows}
-use Rattle.numerals.specs.Spelling.{spell}
+use Rattle.text.specs.declared.LegalTexts.the-variants.{Within}
+use Rattle.text.specs.LegalTexts.{among, allows}
+use Rattle.numerals.specs.Numerals.{spell}
 use Rattle.text.proofs.Ranges.{greatest}
 use Rattle.text.proofs.Among.{at-number, among-cases}
 use Rattle.layout.specs.declared.Edition.{Edition}
 use Rattle.layout.specs.Editions.{lastOf}
-use Rattle.layout.specs.Page.{element, page, widthOf, textOf, textsOf, mayBeBlank, legalText, legal}
+use Rattle.layout.specs.Page.{element, page, widthOf, textOf, legalTexts, mayBeBlank, legalText, legal}
 use Rattle.layout.proofs.Beyond.{last-above, text-none}
 use Rattle.layout.proofs.Elements.{last-below, in-each}
 use Rattle.layout.proofs.Holding.{Holds, empty, holds, in-digits, within}
-use Rattle.places.proofs.DigitLaws.{stands, column-texts}
+use Rattle.places.proofs.DigitLaws.{isDigitOf, column-texts}
 use Rattle.reading.specs.declared.Reading.{Reading}
 use Rattle.reading.specs.Readings.{temperature, departure, plain, placeOf, lead, itemOf, readingOf}
 use Rattle.reading.proofs.ReadingLaws.{lead-is, lead-of-lead}
@@ -77,9 +77,9 @@ module _ (ed : Edition) (rs : List Reading) (e : ℕ) (g : Givable ed rs e) wher
       (placeOf ed (textOf 6 ys) (textOf 7 ys) (textOf 8 ys) ≡ placeOf ed (textOf 6 xs) (textOf 7 xs) (textOf 8 xs))))
   unfolding itemOf element page legal
   places s =
-      place-kept ed (textOf 6 xs) (textOf 7 xs) (textOf 8 xs) (textOf 6 ys) (textOf 7 ys) (textOf 8 ys) (stands ed)
+      place-kept ed (textOf 6 xs) (textOf 7 xs) (textOf 8 xs) (textOf 6 ys) (textOf 7 ys) (textOf 8 ys) (isDigitOf ed)
       (long 6 (lit≤ tt)) (long 7 (lit≤ tt)) (long 8 (lit≤ tt))
-      (in-digits (stands ed) ed xs 6 (column-texts ed (textOf 6 xs)) (lawful 6 (lit≤ tt) (lit≤ tt) s))
+      (in-digits (isDigitOf ed) ed xs 6 (column-texts ed (textOf 6 xs)) (lawful 6 (lit≤ tt) (lit≤ tt) s))
       (within ed xs 0 900 7 (in-each ed 7 (Within 0 900) refl refl refl) (lawful 7 (lit≤ tt) (lit≤ tt) s))
       (within ed xs 0 1800 8 (in-each ed 8 (Within 0 1800) refl refl refl) (lawful 8 (lit≤ tt) (lit≤ tt) s))
       (lawful 6 (lit≤ tt) (lit≤ tt) s)
@@ -104,11 +104,11 @@ module _ (ed : Edition) (rs : List Reading) (e : ℕ) (g : Givable ed rs e) wher
       kept-8 h s = let r = places s in (r .1 .1 .0, r .1 .1 .1)
 
   -- where zero is written the sign is 0, or 5 for a minus that was computed, and that may stand there too
-  zero-sign : (a : ℕ) → among 16 18 28 50 a ≡ true → allows (textsOf ed a) (48 ∷ []) ≡ true
+  zero-sign : (a : ℕ) → among 16 18 28 50 a ≡ true → allows (legalTexts ed a) (48 ∷ []) ≡ true
   unfolding allows valueFrom every
   zero-sign a g = ⊎-elim (λ t. rw t) (λ t. rw t) (sign-texts ed a g)
 
-  five-sign : (a : ℕ) → among 16 18 28 50 a ≡ true → legal ed xs a ≡ true → blank (textOf a xs) ≡ false → number (textOf a xs) ≡ 6 → allows (textsOf ed a) (53 ∷ []) ≡ true
+  five-sign : (a : ℕ) → among 16 18 28 50 a ≡ true → legal ed xs a ≡ true → blank (textOf a xs) ≡ false → number (textOf a xs) ≡ 6 → allows (legalTexts ed a) (53 ∷ []) ≡ true
   unfolding allows valueFrom every
   five-sign a g l there six = ⊎-elim (λ t. no-six (textOf a xs) (within ed xs 0 1 a t l) there six) (λ t. rw t) (sign-texts ed a g)
 

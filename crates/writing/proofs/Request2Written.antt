@@ -10,7 +10,8 @@ use lib.Dec.{leb, lit≤}
 use lib.IntN.{natAbs}
 use Rattle.layout.specs.declared.Edition.{Edition}
 use Rattle.layout.specs.declared.Named.the-variants.{Known}
-use Rattle.layout.specs.declared.Refusal.the-variants.{Illegal}
+use Rattle.refusals.specs.declared.Refusal.the-variants.{Illegal}
+use Rattle.refusals.specs.Lent.{Call, refusing, Quiet}
 use Rattle.layout.specs.Editions.{asked}
 use Rattle.layout.specs.Page.{textOf}
 use Rattle.places.specs.declared.Place.{Place}
@@ -20,18 +21,16 @@ use Rattle.reading.specs.declared.Reading.the-variants.{At}
 use Rattle.reading.specs.Readings.{placeOf, lead, itemOf}
 use Rattle.reading.proofs.Request2Readings.{gives-tens}
 use Rattle.spelling.specs.Spelled.{given}
-use Rattle.writing.specs.declared.Outcome.{Outcome}
-use Rattle.writing.specs.declared.Outcome.the-variants.{Unwritten}
 use Rattle.writing.specs.Written.{writtenIn, writtenAs, written}
 use Rattle.writing.specs.Givable.{Givable, Ungivable}
-use Rattle.writing.proofs.DoneLaws.{WritesBelow, Judged, unwritable, breaking, cramped, kept, judged}
+use Rattle.writing.proofs.DoneLaws.{WritesBelow, Judged, unwritable, breaking, kept, judged}
 use Rattle.writing.proofs.Demand2Refused.{by-record, lowest-ungivable, refused-exactly}
 
 -- refusal 6 at element 6 or a lower one
-pub record By6 (rs : List Reading) (edition room : ℕ) : Type 0 where
+pub record By6 (rs : List Reading) (edition : ℕ) : Type 0 where
   pub element : ℕ
   pub at-most : element ≤ 6
-  pub is : written rs edition room ≡ Unwritten (Illegal element)
+  pub is : written rs edition ≡ refusing (Illegal element)
 
 -- a place given for element 6, 7 or 8
 module _ (ed : Edition) (rs : List Reading) (f : ℕ) (low : 1 ≤ f) (high : f ≤ 101) (shared : lead f ≡ 6) (p : Place) (gave : given rs f ≡ At p) where
@@ -49,23 +48,23 @@ module _ (ed : Edition) (rs : List Reading) (f : ℕ) (low : 1 ≤ f) (high : f 
   longitude-off off g = off (tens-given g .longitude)
 
   -- 6 with element 6, where legal texts give the readings before it
-  pub refused-6 : (Tens p → ⊥) → ((j : ℕ) → 1 ≤ j → j < 6 → Givable ed rs j) → (edition room : ℕ) → asked edition ≡ Known ed → written rs edition room ≡ Unwritten (Illegal 6)
+  pub refused-6 : (Tens p → ⊥) → ((j : ℕ) → 1 ≤ j → j < 6 → Givable ed rs j) → (edition : ℕ) → asked edition ≡ Known ed → written rs edition ≡ refusing (Illegal 6)
   unfolding writtenAs
-  refused-6 off earlier edition room e = rw e (refused-exactly ed rs 6 room .1 (record { low = lit≤ tt; leads = refl; none = λ g. off (tens-given g); earlier = earlier }))
+  refused-6 off earlier edition e = rw e (refused-exactly ed rs 6 .1 (record { low = lit≤ tt; leads = refl; none = λ g. off (tens-given g); earlier = earlier }))
 
   -- and whatever the other readings are, 6 with an element no higher
-  pub refused-by-6 : (Tens p → ⊥) → (edition room : ℕ) → asked edition ≡ Known ed → By6 rs edition room
+  pub refused-by-6 : (Tens p → ⊥) → (edition : ℕ) → asked edition ≡ Known ed → By6 rs edition
   unfolding writtenAs
-  refused-by-6 off edition room e = by _ refl (judged ed rs room)
+  refused-by-6 off edition e = by _ refl (judged ed rs)
     where
       none : Givable ed rs 6 → ⊥
       none g = off (tens-given g)
 
-      every-written : WritesBelow ed rs (1 + 101) → By6 rs edition room
+      every-written : WritesBelow ed rs (1 + 101) → By6 rs edition
       every-written all = absurd (none (by-record ed rs 6 (λ e l h s. all e l (omega arith))))
 
-      by : (o : Outcome) → writtenIn ed rs room ≡ o → Judged ed rs room o → By6 rs edition room
-      by o w (unwritable m a b x below) =
+      by : (c : Call Quiet) → writtenIn ed rs ≡ c → Judged ed rs c → By6 rs edition
+      by c w (unwritable m a b x below) =
           let lowest = lowest-ungivable ed rs m a (omega arith) x below in
           record { element = lead m; at-most = up-to-6 lowest; is = rw e w }
         where
@@ -75,6 +74,5 @@ module _ (ed : Edition) (rs : List Reading) (f : ℕ) (low : 1 ≤ f) (high : f 
               decide-le : (t : Bool) → leb (lead m) 6 ≡ t → lead m ≤ 6
               decide-le true y = leb-true _ _ y
               decide-le false y = absurd (none (u .earlier 6 (lit≤ tt) (leb-false _ _ y)))
-      by o w (breaking f m x g) = every-written f
-      by o w (cramped f g h) = every-written f
-      by o w (kept f g h) = every-written f
+      by c w (breaking f m x g) = every-written f
+      by c w (kept f g) = every-written f

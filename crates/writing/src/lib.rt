@@ -7,26 +7,22 @@
 use checking::Answer;
 use layout::Edition;
 use layout::Named;
-use layout::Refusal;
 use layout::page;
 use reading::Entry;
 use reading::Reading;
+use refusals::Refusal;
+use refusals::Verdict;
 ghost use mathlib.Core.Path.{_≡_};
 ghost use mathlib.Core.Bool.{true, _&&_};
 ghost use lib.ListN.{length};
 ghost use Rattle.text.specs.First.{firstOf};
+ghost use Rattle.refusals.specs.Lent.{verdictOf, Answers};
 ghost use Rattle.layout.specs.Editions.{lengthOf};
 ghost use Rattle.layout.specs.Page.{legal};
 ghost use Rattle.checking.specs.Check.{checked};
 ghost use Rattle.reading.specs.Answers.{readings};
 ghost use Rattle.spelling.specs.Same.{same};
-ghost use Rattle.writing.specs.Written.{writes, writtenIn, filledBy, written, after};
-
-// What writing a record answers.
-pub enum Outcome {
-    Done,
-    Unwritten(Refusal),
-}
+ghost use Rattle.writing.specs.Written.{writes, writtenIn, written};
 
 // Does a check accept the text in this edition? Then every element of it is legal, and none has to be asked.
 fn is_accepted(edition: Edition, text: &[u8]) -> bool
@@ -87,36 +83,34 @@ fn first_unwritten(edition: Edition, entries: [Entry; 101], text: &[u8]) -> usiz
 }
 
 // Writes a record of an edition that is held.
-fn write_in(edition: Edition, entries: [Entry; 101], buffer: &mut [u8]) -> Outcome
-    ensures { λ r. ⌜ r ≡ writtenIn edition (readings entries) (length (now (buffer .entry))) ⌝ }
-    ensures { λ r. ⌜ now (buffer .exit) ≡ filledBy edition (readings entries) r (now (buffer .entry)) ⌝ }
+fn write_in(edition: Edition, entries: [Entry; 101], buffer: &mut [u8]) -> Verdict
+    ensures { λ r. ⌜ Answers verdictOf (writtenIn edition (readings entries)) (now (buffer .entry)) (now (buffer .exit)) r ⌝ }
 {
     let length = edition.length();
     let mut row = [32u8; 159];
     spelling::put_all(edition, entries, &mut row);
     let e = first_unwritten(edition, entries, &row[..length]);
     if e != 0 {
-        return Outcome::Unwritten(Refusal::Illegal(reading::lead_of(e)));
+        return Verdict::Refused(Refusal::Illegal(reading::lead_of(e)));
     }
     let k = ties::first_broken(edition, &row[..length]);
     if k != 0 {
-        return Outcome::Unwritten(Refusal::Broken(k));
+        return Verdict::Refused(Refusal::Broken(k));
     }
     if buffer.len() < length {
-        return Outcome::Unwritten(Refusal::Room);
+        return Verdict::Refused(Refusal::Room);
     }
     bytes::copy(&row[..length], buffer);
-    Outcome::Done
+    Verdict::Fine
 }
 
 // Writes a record from 101 entries, as `reading::read` answers them: any readings, any edition number, any
 // buffer. Success writes the first 131 or 159 bytes; a refusal writes none.
-pub fn write(entries: [Entry; 101], edition: u64, buffer: &mut [u8]) -> Outcome
-    ensures { λ r. ⌜ r ≡ written (readings entries) edition (length (now (buffer .entry))) ⌝ }
-    ensures { λ r. ⌜ now (buffer .exit) ≡ after (readings entries) edition (now (buffer .entry)) ⌝ }
+pub fn write(entries: [Entry; 101], edition: u64, buffer: &mut [u8]) -> Verdict
+    ensures { λ r. ⌜ Answers verdictOf (written (readings entries) edition) (now (buffer .entry)) (now (buffer .exit)) r ⌝ }
 {
     match Edition::of_number(edition) {
         Named::Known(held) => write_in(held, entries, buffer),
-        Named::Unknown => Outcome::Unwritten(Refusal::Unheld),
+        Named::Unknown => Verdict::Refused(Refusal::Unheld),
     }
 }

@@ -1,5 +1,6 @@
 -- `desk::immt_check` meets its contract: it stores and returns what `check` answers, and so what reading does. Assumes nothing.
-use Rattle.checking.specs.Check.{answerNumber, answerPlace}
+use Rattle.refusals.specs.Verdicts.{verdictNumber, verdictPlace}
+use Rattle.checking.specs.Check.{answerVerdict}
 use Rattle.reading.proofs.Request6Readings.{checks}
 use borrow.Author.Needs.{needs}
 use mathlib.Core.Path.{_∙_, ap, sym}
@@ -8,8 +9,9 @@ use Rattle.desk.proofs.immt_check.Tie as tie
 
 returns : tie.Need-returns
 returns c =
-    let answer = c .before .before .check .ensures ∙ sym (checks _) in
-    (c .number .ensures ∙ ap answerNumber answer, c .before .place .ensures ∙ ap answerPlace answer)
+    let place = c .before in
+    let verdict = place .before .verdict .ensures ∙ ap answerVerdict (place .before .before .check .ensures ∙ sym (checks _)) in
+    (c .number .ensures ∙ ap verdictNumber verdict, place .place .ensures ∙ ap verdictPlace verdict)
 
 pub immt-check-spec : {M : Type 1} → statement M
-immt-check-spec = tie.close (tie.spec (λ c κs. search needs) (λ c κs. search needs) (λ c κs. search needs) returns)
+immt-check-spec = tie.close (tie.spec (λ c κs. search needs) (λ c κs. search needs) (λ c κs. search needs) (λ c κs. search needs) returns)

@@ -1,6 +1,7 @@
 -- `desk::immt_recast` meets its contract: it stores and returns what `recast` answers. Assumes nothing.
-use Rattle.losses.specs.declared.Losses.{Losses}
-use Rattle.recasting.specs.Recast.{outcomeNumber, outcomePlace, outcomeLosses}
+use Rattle.element_sets.specs.declared.ElementSet.{ElementSet}
+use Rattle.refusals.specs.Verdicts.{verdictNumber, verdictPlace}
+use Rattle.recasting.specs.declared.Outcome.{Outcome}
 use borrow.Author.Needs.{needs}
 use mathlib.Core.Path.{_∙_, ap}
 use Rattle.desk.proofs.immt_recast.Statement.{statement}
@@ -8,16 +9,18 @@ use Rattle.desk.proofs.immt_recast.Tie as tie
 
 returns : tie.Need-returns
 returns c =
-    let answer = c .before .before .before .before .before .recast .ensures .0 in
-    let lost = c .before .losses .ensures ∙ ap outcomeLosses answer in (
-      c .number .ensures ∙ ap outcomeNumber answer,
+    let place = c .before in
+    let recast = place .before .before .before .before .recast .ensures in
+    let verdict = ap (λ (o : Outcome). o .verdict) (recast .said) in
+    let lost = ap (λ (o : Outcome). o .losses) (recast .said) in (
+      c .number .ensures ∙ ap verdictNumber verdict,
       (
-        c .before .before .place .ensures ∙ ap outcomePlace answer,
-        (ap (λ (l : Losses). l .low) lost, (ap (λ (l : Losses). l .high) lost, c .before .before .before .before .before .recast .ensures .1)),
+        place .place .ensures ∙ ap verdictPlace verdict,
+        (ap (λ (l : ElementSet). l .low) lost, (ap (λ (l : ElementSet). l .high) lost, recast .left)),
       ),
     )
 
 pub immt-recast-spec : {M : Type 1} → statement M
 immt-recast-spec =
     tie.close
-    (tie.spec (λ c κs. search needs) (λ c κs. search needs) (λ c κs. search needs) (λ c κs. search needs) (λ c. search needs) returns)
+    (tie.spec (λ c κs. search needs) (λ c κs. search needs) (λ c κs. search needs) (λ c. search needs) returns)

@@ -20,9 +20,6 @@ abbrev μ-loop : tie.MeasureT-loop
 small : (c : tie.In-loop Inv-loop μ-loop) → c .before .loop .n < 281474976710656
 small c = seven-bytes _ _ (c .before .loop .inv .1 .0) (omega arith)
 
-low : (c : tie.After-wide Inv-loop μ-loop) → c .wide .result < 256
-low c = omega (arith, c .wide .ensures, c .before .shared-slice-known2 .given (c .before .before .before .loop .i))
-
 loop-holds : tie.Need-loop-holds Inv-loop μ-loop
 loop-holds c = (search needs, (omega arith, refl))
 
@@ -30,15 +27,15 @@ mul-n : tie.Need-mul-n Inv-loop μ-loop
 mul-n c = omega (arith, small c)
 
 add-n : tie.Need-add-n Inv-loop μ-loop
-add-n c = omega (arith, small (c .before .before), low c)
+add-n c = omega (arith, small (c .before .before), c .byte .ensures .1)
 
 loop-again : tie.Need-loop-again Inv-loop μ-loop
 loop-again c = (
   omega arith,
   (
-    byte-more _ _ _ (c .before .before .before .loop .inv .1 .0) (low c),
+    byte-more _ _ _ (c .before .before .before .loop .inv .1 .0) (omega (arith, c .byte .ensures .1)),
     c .before .before .before .loop .inv .1 .1 ∙ more 256 0 _ _ _ (c .before .before .loop-test .taken) ∙
-        ap (λ (b : ℕ). valueFrom 256 0 (c .before .before .before .loop .n * 256 + b) (drop (c .before .before .before .loop .i + 1) (c .before .before .before .before .before .args .text .now))) (sub-zero _ ∙ sym (c .wide .ensures)),
+        ap (λ (b : ℕ). valueFrom 256 0 (c .before .before .before .loop .n * 256 + b) (drop (c .before .before .before .loop .i + 1) (c .before .before .before .before .before .args .text .now))) (sub-zero _ ∙ sym (c .byte .ensures .0)),
   ),
 )
 

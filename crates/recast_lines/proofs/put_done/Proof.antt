@@ -1,5 +1,5 @@
 -- `recast_lines::put_done` meets its contract. Assumes nothing.
-use Rattle.recast_lines.specs.Sentences.{recastLine}
+use Rattle.recast_lines.specs.Sentences.{lineOf}
 use Rattle.text.specs.Bytes.{bytesOf}
 use Rattle.wording.proofs.PutLaws.{also}
 use Rattle.wording.specs.Wording.{lineEnd}
@@ -9,7 +9,7 @@ use Rattle.recast_lines.proofs.put_done.Statement.{statement}
 use Rattle.recast_lines.proofs.put_done.Tie as tie
 
 returns : tie.Need-returns
-unfolding recastLine lineEnd bytesOf
+unfolding lineOf lineEnd bytesOf
 returns c =
     let count = c .before .before .before .before .before .before .before .before .before .before .before .before .before .before .before .before .put-number .ensures .0 in
     let number = c .before .before .before .before .before .before .before .before .before .before .before .put-numbered .ensures .0 in

@@ -1,5 +1,5 @@
 -- `recast_lines::put_outcome` meets its contract. Assumes nothing.
-use Rattle.recast_lines.specs.Sentences.{recastLine}
+use Rattle.recast_lines.specs.Sentences.{lineOf}
 use mathlib.Core.Path.{refl}
 use native.Mathlib.Omega.{arith}
 use borrow.Author.Needs.{needs}
@@ -7,11 +7,15 @@ use Rattle.recast_lines.proofs.put_outcome.Statement.{statement}
 use Rattle.recast_lines.proofs.put_outcome.Tie as tie
 
 returns : tie.Need-returns
-returns c = rw (c .before .before .before .before .before .outcome .given .1) (record { puts = c .before .before .put-done .ensures .0; refuses = refl; short = c .before .before .put-done .ensures .1 })
+returns c =
+    let put = c .before .before in
+    rw (put .before .before .enum-told .given .1) (record { puts = put .put-done .ensures .0; refuses = refl; short = put .put-done .ensures .1 })
 
 returns-2 : tie.Need-returns-2
-unfolding recastLine
-returns-2 c = rw (c .before .before .before .before .before .outcome2 .given .1) (record { puts = c .before .before .put-refused .ensures .0; refuses = refl; short = omega (arith, c .before .before .put-refused .ensures .1) })
+unfolding lineOf
+returns-2 c =
+    let put = c .before .before in
+    rw (put .before .before .before .verdict .given .1) (record { puts = put .put-refused .ensures .0; refuses = refl; short = omega (arith, put .put-refused .ensures .1) })
 
 pub put-outcome-spec : {M : Type 1} → statement M
 put-outcome-spec =

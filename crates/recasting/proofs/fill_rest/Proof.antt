@@ -2,7 +2,7 @@
 use borrow.Author.Needs.{needs}
 use mathlib.Core.Path.{sym, _∙_}
 use native.Mathlib.Omega.{arith}
-use Rattle.numerals.specs.Spelling.{spelled}
+use Rattle.numerals.specs.Numerals.{spelled}
 use Rattle.blanking.proofs.RowLaws.{other-length}
 use Rattle.recasting.specs.Recast.{blanks}
 use Rattle.recasting.proofs.FillLaws.{whole-copy, rest-blank, rest-own, own-long}

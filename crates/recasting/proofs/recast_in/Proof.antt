@@ -1,13 +1,18 @@
 -- `recasting::recast_in` meets its contract. Assumes nothing.
 use borrow.Author.Needs.{needs}
-use mathlib.Core.Path.{sym, _∙_}
+use mathlib.Core.Path.{ap, refl, sym, _∙_}
 use Rattle.text.proofs.Parts.{front-length}
-use Rattle.recasting.proofs.RecastLaws.{own-texts, left-alone, done}
+use Rattle.refusals.proofs.LentLaws.{cramped, writes}
+use Rattle.recasting.specs.Recast.{recastTo, outcomeOf, done}
+use Rattle.recasting.proofs.RecastLaws.{filled, fitting, not-fitting, own-texts}
 use Rattle.recasting.proofs.recast_in.Statement.{statement}
 use Rattle.recasting.proofs.recast_in.Tie as tie
 
 returns : tie.Need-returns
-returns c = left-alone _ _ _ _ _ (c .before .length .ensures) (c .if1 .taken)
+unfolding recastTo
+returns c =
+    let length = c .before .before in
+    cramped _ _ outcomeOf refl (not-fitting _ _ _ _ (length .length .ensures) (length .before .before .before .pre) (c .before .if1 .taken)) (c .refused .ensures)
 
 slice-aggregate-row : tie.Need-slice-aggregate-row
 slice-aggregate-row c = front-length (c .before .before .length .result) _ (c .before .if1 .left)
@@ -24,15 +29,20 @@ losses-of-requires c κs =
     own-texts _ _ (start .pre)
 
 returns-2 : tie.Need-returns-2
+unfolding recastTo
 returns-2 c =
     let make = c .before .before .before in
     let room = make .before .before in
-    done _ _ _ _ _ (room .before .length .ensures) (room .if1 .left) _ (c .losses-of .ensures) _ (make .make .ensures)
+    let length = room .before in
+    let start = length .before .before .before in
+    writes _ _ outcomeOf refl (fitting _ _ _ _ (length .length .ensures) (start .pre) (room .if1 .left)) (filled _ _ _ _ (length .length .ensures) (start .pre) _ _ (make .make .ensures))
+    (ap done (c .losses-of .ensures))
 
 pub recast-in-spec : {M : Type 1} → statement M
 recast-in-spec =
     tie.close
     (tie.spec
+    (λ c κs. search needs)
     (λ c κs. search needs)
     returns
     (λ c. search needs)

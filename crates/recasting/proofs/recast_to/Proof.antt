@@ -1,28 +1,28 @@
 -- `recasting::recast_to` meets its contract. Assumes nothing.
+use Rattle.refusals.proofs.LentLaws.{refuses, same-call}
 use Rattle.layout.specs.declared.Named.{Named}
-use Rattle.recasting.proofs.RecastLaws.{at-name, at-name-left}
-use Rattle.recasting.specs.Recast.{recastTo, leftTo, filledBy}
-use Rattle.recasting.specs.declared.Outcome.{Outcome}
+use Rattle.recasting.proofs.RecastLaws.{at-name}
+use Rattle.recasting.specs.Recast.{recastTo, outcomeOf}
 use borrow.Author.Needs.{needs}
-use lib.ListN.{length}
-use mathlib.Core.Path.{_∙_, ap}
+use mathlib.Core.Path.{_∙_, ap, sym}
 use Rattle.recasting.proofs.recast_to.Statement.{statement}
 use Rattle.recasting.proofs.recast_to.Tie as tie
 
 returns : tie.Need-returns
-unfolding recastTo leftTo
-returns c = (
-  c .before .before .recast-in .ensures .0 ∙ at-name _ _ _ (c .before .before .before .before .before .to .given .1) ∙ ap (λ (q : Named). recastTo (c .before .before .before .before .before .before .before .before .before .before .args .from) q (c .before .before .before .before .before .before .before .before .before .before .args .line .now) (length (c .before .before .before .before .before .before .before .before .before .before .args .buffer .now))) (c .before .before .before .before .before .before .before .of-number .ensures),
-  c .before .before .recast-in .ensures .1 ∙ ap (λ (o : Outcome). filledBy (c .before .before .before .before .before .before .before .before .before .before .args .from) (c .before .before .before .before .before .to .given .0 .0) (c .before .before .before .before .before .before .before .before .before .before .args .line .now) o (c .before .before .before .before .before .before .before .before .before .before .args .buffer .now)) (c .before .before .recast-in .ensures .0) ∙
-      at-name-left _ _ _ (c .before .before .before .before .before .to .given .1) ∙ ap (λ (q : Named). leftTo (c .before .before .before .before .before .before .before .before .before .before .args .from) q (c .before .before .before .before .before .before .before .before .before .before .args .line .now) (c .before .before .before .before .before .before .before .before .before .before .args .buffer .now)) (c .before .before .before .before .before .before .before .of-number .ensures),
-)
+returns c =
+    let recast = c .before .before in
+    let arm = recast .before .before .before in
+    let named = arm .before .before in
+    let args = named .before .before .before .args in
+    same-call _ _ outcomeOf (at-name _ _ (arm .to .given .1) ∙ ap (λ (q : Named). recastTo (args .from) q (args .line .now)) (named .of-number .ensures)) (recast .recast-in .ensures)
 
 returns-2 : tie.Need-returns-2
-unfolding recastTo leftTo
-returns-2 c = (
-  at-name _ _ _ (c .enum-told .given .1) ∙ ap (λ (q : Named). recastTo (c .before .before .before .before .before .args .from) q (c .before .before .before .before .before .args .line .now) (length (c .before .before .before .before .before .args .buffer .now))) (c .before .before .of-number .ensures),
-  at-name-left _ _ _ (c .enum-told .given .1) ∙ ap (λ (q : Named). leftTo (c .before .before .before .before .before .args .from) q (c .before .before .before .before .before .args .line .now) (c .before .before .before .before .before .args .buffer .now)) (c .before .before .of-number .ensures),
-)
+unfolding recastTo
+returns-2 c =
+    let arm = c .before in
+    let named = arm .before .before in
+    let args = named .before .before .before .args in
+    refuses _ _ outcomeOf (sym (at-name _ _ (arm .enum-told .given .1) ∙ ap (λ (q : Named). recastTo (args .from) q (args .line .now)) (named .of-number .ensures))) (c .refused .ensures)
 
 pub recast-to-spec : {M : Type 1} → statement M
 recast-to-spec =
@@ -32,6 +32,7 @@ recast-to-spec =
     (λ c. search needs)
     (λ c κs. search needs)
     (λ c. search needs)
+    (λ c κs. search needs)
     (λ c. search needs)
     returns
     returns-2)

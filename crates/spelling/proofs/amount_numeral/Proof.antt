@@ -1,6 +1,6 @@
 -- `spelling::amount_numeral` meets its contract. Assumes nothing.
 use Prim.Native.Nat.{_+_, ℕ}
-use Rattle.numerals.specs.Spelling.{inDigits}
+use Rattle.numerals.specs.Numerals.{inDigits}
 use Rattle.signs.proofs.Signs.{itself}
 use Rattle.signs.specs.Signed.{negative}
 use Rattle.spelling.proofs.SpellLaws.{amount-departure, amount-none, amount-sign, amount-value}

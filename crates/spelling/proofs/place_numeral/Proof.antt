@@ -1,5 +1,5 @@
 -- `spelling::place_numeral` meets its contract. Assumes nothing.
-use Rattle.numerals.specs.Spelling.{inDigits}
+use Rattle.numerals.specs.Numerals.{inDigits}
 use Rattle.spelling.proofs.SpellLaws.{place-digit, place-latitude, place-longitude, place-none}
 use borrow.Author.Needs.{needs}
 use mathlib.Core.Path.{_∙_, ap, sym}

@@ -22,12 +22,12 @@ passed : (p : ℕ → Bool) {x y : ℕ} {t : Bool} → t ≡ p y → y ≡ x →
 passed p e f = e ∙ ap p f
 
 returns : tie.Need-returns Inv-loop μ-loop
-returns c = run-off (either _ _ _ _) _ _ (c .before .before .before .before .before .loop .inv .1) (c .before .before .before .before .loop-test .taken) (sym (passed (either _ _ _ _) (c .before .is-either .ensures) (c .before .before .wide .ensures)) ∙ not-true _ (c .if1 .taken))
+returns c = run-off (either _ _ _ _) _ _ (c .before .before .before .before .before .loop .inv .1) (c .before .before .before .before .loop-test .taken) (sym (passed (either _ _ _ _) (c .before .is-either .ensures) (c .before .before .value .ensures)) ∙ not-true _ (c .if1 .taken))
 
 loop-again : tie.Need-loop-again Inv-loop μ-loop
 loop-again c = (
   omega arith,
-  run-on (either _ _ _ _) _ _ (c .before .before .before .before .before .loop .inv .1) (c .before .before .before .before .loop-test .taken) (sym (passed (either _ _ _ _) (c .before .is-either .ensures) (c .before .before .wide .ensures)) ∙ not-false _ (c .if1 .left)),
+  run-on (either _ _ _ _) _ _ (c .before .before .before .before .before .loop .inv .1) (c .before .before .before .before .loop-test .taken) (sym (passed (either _ _ _ _) (c .before .is-either .ensures) (c .before .before .value .ensures)) ∙ not-false _ (c .if1 .left)),
 )
 
 returns-2 : tie.Need-returns-2 Inv-loop μ-loop

@@ -1,16 +1,16 @@
 -- `text::is_one` meets its contract, an arm for each kind of texts. Assumes nothing.
 use Prim.Native.Nat.{ℕ}
-use Rattle.text.specs.Texts.{allows}
+use Rattle.text.specs.LegalTexts.{allows}
 use borrow.Author.Needs.{needs}
 use mathlib.Core.List.{List}
 use mathlib.Core.Path.{_∙_, _≡_, ap, sym}
-use Rattle.text.specs.declared.Texts.{Texts}
+use Rattle.text.specs.declared.LegalTexts.{LegalTexts}
 use Rattle.text.proofs.is_one.Statement.{statement}
 use Rattle.text.proofs.is_one.Tie as tie
 
 -- the texts that an arm was taken at
-at-texts : {s s′ : Texts} (t : List ℕ) → s ≡ s′ → allows s′ t ≡ allows s t
-at-texts t e = sym (ap (λ (q : Texts). allows q t) e)
+at-texts : {s s′ : LegalTexts} (t : List ℕ) → s ≡ s′ → allows s′ t ≡ allows s t
+at-texts t e = sym (ap (λ (q : LegalTexts). allows q t) e)
 
 returns : tie.Need-returns
 unfolding allows

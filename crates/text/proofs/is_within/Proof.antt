@@ -1,18 +1,18 @@
 -- `text::is_within` meets its contract. Assumes nothing.
 use Rattle.text.proofs.Numbers.{with-digits, without-digits}
 use Rattle.text.specs.Bytes.{between}
-use Rattle.text.specs.Texts.{allows}
+use Rattle.text.specs.LegalTexts.{allows}
 use borrow.Author.Needs.{needs}
 use Rattle.text.proofs.is_within.Statement.{statement}
 use Rattle.text.proofs.is_within.Tie as tie
 
 returns : tie.Need-returns
 unfolding allows
-returns c = with-digits (between _ _) _ _ (c .before .before .before .before .numeral-of .ensures) _ (c .before .before .n .given .1) _ (c .is-between .ensures)
+returns c = with-digits (between _ _) _ _ (c .before .before .before .before .digits-in .ensures) _ (c .before .before .n .given .1) _ (c .is-between .ensures)
 
 returns-2 : tie.Need-returns-2
 unfolding allows
-returns-2 c = without-digits (between _ _) _ _ (c .before .before .numeral-of .ensures) (c .enum-told .given .1)
+returns-2 c = without-digits (between _ _) _ _ (c .before .before .digits-in .ensures) (c .enum-told .given .1)
 
 pub is-within-spec : {M : Type 1} → statement M
 is-within-spec =

@@ -1,5 +1,6 @@
 -- `trial::trial_read` meets its contract: it stores and returns what `read` answers. Assumes nothing.
-use Rattle.checking.specs.Check.{answerNumber, answerPlace}
+use Rattle.refusals.specs.Verdicts.{verdictNumber, verdictPlace}
+use Rattle.checking.specs.Check.{answerVerdict}
 use Rattle.reading.specs.Answers.{readAs, readOf}
 use Rattle.reading.specs.declared.Readings.{Readings}
 use Rattle.trial.proofs.PackedLaws.{amounts-long, laid, numbers-long, room-there, unlaid}
@@ -13,22 +14,25 @@ use Rattle.trial.proofs.trial_read.Statement.{statement}
 use Rattle.trial.proofs.trial_read.Tie as tie
 
 put-all-requires : tie.Need-put-all-requires
-put-all-requires c κs = room-there (now (c .before .before .before .before .before .before .before .before .before .before .before .before .args .numbers)) (now (c .before .before .before .before .before .before .before .before .before .before .before .before .args .amounts)) (sym (c .before .before .before .has-room .ensures) ∙ c .before .before .if1 .taken)
+put-all-requires c κs =
+    let start = c .before .before .before .before .before .before .before .before .before .before .before .before .before in
+    room-there (now (start .args .numbers)) (now (start .args .amounts)) (sym (c .before .before .before .has-room .ensures) ∙ c .before .before .if1 .taken)
 
 returns : tie.Need-returns
 returns c =
     let before = c .before .before .before .before in
     let number = c .before .before .before .before .before .before .before .before .before .before .before .before in
-    let start = number .before .before .before .before in
-    let read = number .before .read .ensures in
+    let start = number .before .before .before .before .before in
+    let read = number .before .before .read .ensures in
+    let verdict = number .before .verdict .ensures ∙ ap (λ (r : Readings). answerVerdict (r .answer)) read in
     let es = readOf (now (start .args .line)) .entries in
     let there = sym (before .before .before .before .has-room .ensures) ∙ before .before .before .if1 .taken in (
-      number .number .ensures ∙ ap (λ (r : Readings). answerNumber (r .answer)) read,
+      number .number .ensures ∙ ap verdictNumber verdict,
       (
         laid _ (numbersOf es) (now (start .args .numbers)) _ 404 there (numbers-long (readAs es) 1 101) (c .before .before .before .put-all .ensures .0 ∙ ap (λ (r : Readings). numbersOf (r .entries) ++ drop 404 (now (start .args .numbers))) read),
         (
           laid _ (amountsOf es) (now (start .args .amounts)) _ 101 there (amounts-long (readAs es) 1 101) (c .before .before .before .put-all .ensures .1 ∙ ap (λ (r : Readings). amountsOf (r .entries) ++ drop 101 (now (start .args .amounts))) read),
-          (c .before .before .before .before .before .before .before .before .before .before .edition-in .ensures ∙ ap (λ (r : Readings). editionIn (r .answer)) read, c .before .before .before .before .before .before .before .before .before .before .before .place .ensures ∙ ap (λ (r : Readings). answerPlace (r .answer)) read),
+          (c .before .before .before .before .before .before .before .before .before .before .edition-in .ensures ∙ ap (λ (r : Readings). editionIn (r .answer)) read, c .before .before .before .before .before .before .before .before .before .before .before .place .ensures ∙ ap verdictPlace verdict),
         ),
       ),
     )
@@ -36,16 +40,17 @@ returns c =
 returns-2 : tie.Need-returns-2
 returns-2 c =
     let number = c .before .before .before .before .before .before in
-    let start = number .before .before .before .before in
+    let start = number .before .before .before .before .before in
     let es = readOf (now (start .args .line)) .entries in
-    let read = number .before .read .ensures in
+    let read = number .before .before .read .ensures in
+    let verdict = number .before .verdict .ensures ∙ ap (λ (r : Readings). answerVerdict (r .answer)) read in
     let none = sym (c .before .has-room .ensures) ∙ c .if1 .left in (
-      number .number .ensures ∙ ap (λ (r : Readings). answerNumber (r .answer)) read,
+      number .number .ensures ∙ ap verdictNumber verdict,
       (
         unlaid _ (numbersOf es) _ none,
         (
           unlaid _ (amountsOf es) _ none,
-          (c .before .before .before .before .edition-in .ensures ∙ ap (λ (r : Readings). editionIn (r .answer)) read, c .before .before .before .before .before .place .ensures ∙ ap (λ (r : Readings). answerPlace (r .answer)) read),
+          (c .before .before .before .before .edition-in .ensures ∙ ap (λ (r : Readings). editionIn (r .answer)) read, c .before .before .before .before .before .place .ensures ∙ ap verdictPlace verdict),
         ),
       ),
     )
@@ -53,4 +58,4 @@ returns-2 c =
 pub trial-read-spec : {M : Type 1} → statement M
 trial-read-spec =
     tie.close
-    (tie.spec (λ c κs. search needs) (λ c κs. search needs) (λ c κs. search needs) (λ c κs. search needs) (λ c κs. search needs) put-all-requires (λ c. search needs) (λ c. search needs) returns (λ c. search needs) (λ c. search needs) returns-2)
+    (tie.spec (λ c κs. search needs) (λ c κs. search needs) (λ c κs. search needs) (λ c κs. search needs) (λ c κs. search needs) (λ c κs. search needs) put-all-requires (λ c. search needs) (λ c. search needs) returns (λ c. search needs) (λ c. search needs) returns-2)

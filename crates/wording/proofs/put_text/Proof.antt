@@ -1,6 +1,6 @@
 -- `wording::put_text` meets its contract: placing what is left of the text gives what placing the whole gave. Assumes nothing.
 use Prim.Native.Nat.{_+_, _-_, _≤_}
-use Rattle.numerals.specs.Spelling.{placed}
+use Rattle.numerals.specs.Numerals.{placed}
 use Rattle.wording.proofs.WordingLaws.{text-end, text-starts, text-turn}
 use borrow.Author.Needs.{needs}
 use lib.ListN.{drop, length, length-set}

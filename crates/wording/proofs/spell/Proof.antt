@@ -1,7 +1,7 @@
 -- `wording::spell` meets its contract: placing what is left to spell gives what placing the whole gave. Assumes nothing.
 use Prim.Native.Nat.{_≤_}
 use Rattle.numerals.proofs.Spellings.{put-end, put-turn}
-use Rattle.numerals.specs.Spelling.{placed, spelled}
+use Rattle.numerals.specs.Numerals.{placed, spelled}
 use borrow.Author.Needs.{needs}
 use lib.ListN.{length, length-set}
 use mathlib.Core.Path.{_∙_, _≡_, refl}

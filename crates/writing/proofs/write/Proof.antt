@@ -1,22 +1,30 @@
 -- `writing::write` meets its contract. Assumes nothing.
+use Rattle.refusals.specs.Lent.{verdictOf}
+use Rattle.refusals.proofs.LentLaws.{refuses, same-call}
 use Rattle.reading.specs.Answers.{readings}
-use Rattle.writing.proofs.WriteLaws.{at-name, at-name-after}
-use Rattle.writing.specs.Written.{afterAs, filledBy, writtenAs}
+use Rattle.writing.proofs.WriteLaws.{at-name}
+use Rattle.writing.specs.Written.{writtenAs}
 use borrow.Author.Needs.{needs}
-use lib.ListN.{length}
-use mathlib.Core.Path.{_∙_, ap}
+use mathlib.Core.Path.{_∙_, ap, refl, sym}
 use Rattle.layout.specs.declared.Named.{Named}
-use Rattle.writing.specs.declared.Outcome.{Outcome}
 use Rattle.writing.proofs.write.Statement.{statement}
 use Rattle.writing.proofs.write.Tie as tie
 
 returns : tie.Need-returns
-unfolding writtenAs afterAs
-returns c = ((c .before .before .write-in .ensures .0) ∙ at-name _ _ (c .before .before .before .before .before .held .given .1) ∙ ap (λ (q : Named). writtenAs q (readings (c .before .before .before .before .before .before .before .before .before .args .entries)) (length (c .before .before .before .before .before .before .before .before .before .args .buffer .now))) (c .before .before .before .before .before .before .before .of-number .ensures), (c .before .before .write-in .ensures .1) ∙ ap (λ (o : Outcome). filledBy (c .before .before .before .before .before .held .given .0 .0) (readings (c .before .before .before .before .before .before .before .before .before .args .entries)) o (c .before .before .before .before .before .before .before .before .before .args .buffer .now)) (c .before .before .write-in .ensures .0) ∙ at-name-after _ _ (c .before .before .before .before .before .held .given .1) ∙ ap (λ (q : Named). afterAs q (readings (c .before .before .before .before .before .before .before .before .before .args .entries)) (c .before .before .before .before .before .before .before .before .before .args .buffer .now)) (c .before .before .before .before .before .before .before .of-number .ensures))
+unfolding writtenAs
+returns c =
+    let wrote = c .before .before in
+    let arm = wrote .before .before .before in
+    let named = arm .before .before in
+    let args = named .before .before .args in
+    same-call _ _ verdictOf (at-name _ (arm .held .given .1) ∙ ap (λ (q : Named). writtenAs q (readings (args .entries))) (named .of-number .ensures)) (wrote .write-in .ensures)
 
 returns-2 : tie.Need-returns-2
-unfolding writtenAs afterAs
-returns-2 c = (at-name _ _ (c .enum-told .given .1) ∙ ap (λ (q : Named). writtenAs q (readings (c .before .before .before .before .args .entries)) (length (c .before .before .before .before .args .buffer .now))) (c .before .before .of-number .ensures), at-name-after _ _ (c .enum-told .given .1) ∙ ap (λ (q : Named). afterAs q (readings (c .before .before .before .before .args .entries)) (c .before .before .before .before .args .buffer .now)) (c .before .before .of-number .ensures))
+unfolding writtenAs
+returns-2 c =
+    let named = c .before .before in
+    let args = named .before .before .args in
+    refuses _ _ verdictOf (sym (at-name _ (c .enum-told .given .1) ∙ ap (λ (q : Named). writtenAs q (readings (args .entries))) (named .of-number .ensures))) refl
 
 pub write-spec : {M : Type 1} → statement M
 write-spec =

@@ -6,7 +6,7 @@ use Rattle.blanking.proofs.names.moved.Statement.{statement}
 use Rattle.blanking.proofs.names.moved.Tie as tie
 
 returns : tie.Need-returns
-returns c = rw (c .wide .ensures) (shl-exact 8 (c .before .args .by) 64 (omega arith) (omega arith))
+returns c = rw (c .byte .ensures .0) (shl-exact 8 (c .before .args .by) 64 (omega arith) (omega arith))
 
 pub moved-spec : {M : Type 1} → statement M
 moved-spec = tie.close (tie.spec (λ c κs. search needs) (λ c. search needs) returns)

@@ -4,7 +4,7 @@ use Prim.Native.Nat.{_+_, _-_, _≤_}
 use native.Mathlib.Omega.{arith}
 use borrow.Author.Needs.{needs}
 use Rattle.text.specs.Bytes.{between}
-use Rattle.losses.specs.Losses.{word}
+use Rattle.element_sets.specs.ElementSets.{bits}
 use Rattle.layout.specs.Page.{firstByte}
 use Rattle.layout.proofs.Columns.{start-next, start-rises, some-column}
 use Rattle.blanking.proofs.NameLaws.{word-on, mask}
@@ -12,13 +12,13 @@ use Rattle.blanking.proofs.names.name_eight.Statement.{statement}
 use Rattle.blanking.proofs.names.name_eight.Tie as tie
 
 abbrev Inv-loop : tie.InvT-loop
-Inv-loop line e low high masks w₀ k₀ w k = (k ≤ 8) × (w ≡ word (λ j. between low high (firstByte j line)) e k)
+Inv-loop line e low high masks w₀ k₀ w k = (k ≤ 8) × (w ≡ bits (λ j. between low high (firstByte j line)) e k)
 
 abbrev μ-loop : tie.MeasureT-loop
 μ-loop line e low high masks w₀ k₀ w k = 8 - k
 
 loop-holds : tie.Need-loop-holds Inv-loop μ-loop
-unfolding word
+unfolding bits
 loop-holds c = (omega arith, refl)
 
 first-byte-requires : tie.Need-first-byte-requires Inv-loop μ-loop
@@ -40,7 +40,7 @@ returns : tie.Need-returns Inv-loop μ-loop
 returns c =
     let args = c .before .before .before .args in
     let all : c .before .loop .k ≡ 8 = omega arith in
-    c .before .loop .inv .1 ∙ ap (word (λ j. between (args .low) (args .high) (firstByte j (args .line .now))) (args .e)) all
+    c .before .loop .inv .1 ∙ ap (bits (λ j. between (args .low) (args .high) (firstByte j (args .line .now))) (args .e)) all
 
 pub name-eight-spec : {M : Type 1} → statement M
 name-eight-spec =

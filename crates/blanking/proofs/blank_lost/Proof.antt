@@ -34,12 +34,5 @@ returns-2 c =
 pub blank-lost-spec : {M : Type 1} → statement M
 blank-lost-spec =
     tie.close
-    (tie.spec
-    blank-shared-requires
-    (λ c κs. search needs)
-    (λ c. search needs)
-    returns
-    (λ c κs. search needs)
-    blank-later-requires
-    (λ c. search needs)
-    returns-2)
+    (tie.spec blank-shared-requires
+    (λ c κs. search needs) (λ c. search needs) returns (λ c κs. search needs) blank-later-requires (λ c. search needs) returns-2)

@@ -50,18 +50,6 @@ returns c =
 pub blank-run-spec : {M : Type 1} → statement M
 blank-run-spec =
     tie.close
-    (tie.spec
-    Inv-loop
-    μ-loop
-    loop-holds
-    (λ c. search needs)
-    slice-read-b
-    (λ c κs. search needs)
-    (λ c κs. search needs)
-    (λ c. search needs)
-    slice-write-row
-    (λ c. search needs)
-    (λ c. search needs)
-    loop-again
-    same-length
-    returns)
+    (tie.spec Inv-loop
+    μ-loop loop-holds (λ c. search needs) slice-read-b (λ c κs. search needs) (λ c κs. search needs) (λ c. search needs) slice-write-row
+    (λ c. search needs) (λ c. search needs) loop-again same-length returns)

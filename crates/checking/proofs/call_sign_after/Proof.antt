@@ -26,12 +26,5 @@ returns-2 c = (rw (c .before .enum-told2 .given .1), omega arith)
 pub call-sign-after-spec : {M : Type 1} → statement M
 call-sign-after-spec =
     tie.close
-    (tie.spec
-    (λ c. search needs)
-    full-text-requires
-    (λ c κs. search needs)
-    slice-aggregate-result
-    (λ c. search needs)
-    (λ c. search needs)
-    returns
-    returns-2)
+    (tie.spec (λ c. search needs)
+    full-text-requires (λ c κs. search needs) slice-aggregate-result (λ c. search needs) (λ c. search needs) returns returns-2)

@@ -28,13 +28,5 @@ returns-3 c = λ z. subst (λ (ed : Edition). Own ed (c .before .before .before 
 pub own-spec : {M : Type 1} → statement M
 own-spec =
     tie.close
-    (tie.spec
-    (λ c. search needs)
-    own-requires
-    (λ c. search needs)
-    own-requires-2
-    (λ c. search needs)
-    own-requires-3
-    returns
-    returns-2
-    returns-3)
+    (tie.spec (λ c. search needs)
+    own-requires (λ c. search needs) own-requires-2 (λ c. search needs) own-requires-3 returns returns-2 returns-3)

@@ -38,15 +38,6 @@ returns-5 c = λ ed e. none-said ed e
 pub edition-of-spec : {M : Type 1} → statement M
 edition-of-spec =
     tie.close
-    (tie.spec
-    returns
-    first-byte-requires
-    (λ c κs. search needs)
-    (λ c. search needs)
-    (λ c κs. search needs)
-    returns-2
-    is-sure-requires
-    returns-3
-    (λ c. search needs)
-    returns-4
+    (tie.spec returns
+    first-byte-requires (λ c κs. search needs) (λ c. search needs) (λ c κs. search needs) returns-2 is-sure-requires returns-3 (λ c. search needs) returns-4
     returns-5)

@@ -35,11 +35,5 @@ returns-3 c = λ e.
 pub is-sure-spec : {M : Type 1} → statement M
 is-sure-spec =
     tie.close
-    (tie.spec
-    shared-requires
-    alike-requires
-    returns
-    (λ c κs. search needs)
-    returns-2
-    (λ c κs. search needs)
-    returns-3)
+    (tie.spec shared-requires
+    alike-requires returns (λ c κs. search needs) returns-2 (λ c κs. search needs) returns-3)

@@ -41,15 +41,6 @@ returns-3 c = λ z. subst (λ (ed : Edition). Rest ed (c .before .before .before
 pub rest-spec : {M : Type 1} → statement M
 rest-spec =
     tie.close
-    (tie.spec
-    (λ c. search needs)
-    first-byte-requires
-    word-of-requires
-    (λ c κs. search needs)
-    (λ c. search needs)
-    later-off-requires
-    (λ c. search needs)
-    later-off-requires-2
-    returns
-    returns-2
-    returns-3)
+    (tie.spec (λ c. search needs)
+    first-byte-requires word-of-requires (λ c κs. search needs) (λ c. search needs) later-off-requires (λ c. search needs) later-off-requires-2 returns
+    returns-2 returns-3)

@@ -31,15 +31,21 @@ temperature-requires c κs = le-trans (lit≤ tt) (c .before .before .before .be
 
 temperature-requires-2 : tie.Need-temperature-requires-2
 unfolding startOf columns page
-temperature-requires-2 c κs = le-trans (lit≤ tt) (c .before .before .before .before .before .before .pre)
+temperature-requires-2 c κs =
+    let start = c .before .before .before .before .before .before in
+    le-trans (lit≤ tt) (start .pre)
 
 temperature-requires-3 : tie.Need-temperature-requires-3
 unfolding startOf columns page
-temperature-requires-3 c κs = le-trans (lit≤ tt) (c .before .before .before .before .before .before .before .pre)
+temperature-requires-3 c κs =
+    let start = c .before .before .before .before .before .before .before in
+    le-trans (lit≤ tt) (start .pre)
 
 temperature-requires-4 : tie.Need-temperature-requires-4
 unfolding startOf columns page
-temperature-requires-4 c κs = le-trans (lit≤ tt) (c .before .before .before .before .before .before .before .before .pre)
+temperature-requires-4 c κs =
+    let start = c .before .before .before .before .before .before .before .before in
+    le-trans (lit≤ tt) (start .pre)
 
 returns : tie.Need-returns
 returns c = λ z.

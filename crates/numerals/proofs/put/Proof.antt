@@ -47,18 +47,6 @@ returns c = put-end (c .before .before .args .numeral .base) (c .before .before 
 pub put-spec : {M : Type 1} → statement M
 put-spec =
     tie.close
-    (tie.spec
-    Inv-loop
-    μ-loop
-    loop-holds
-    (λ c. search needs)
-    (λ c. search needs)
-    add-buffer
-    cast-buffer
-    (λ c. search needs)
-    slice-write-buffer
-    (λ c. search needs)
-    (λ c. search needs)
-    loop-again
-    same-length
-    returns)
+    (tie.spec Inv-loop
+    μ-loop loop-holds (λ c. search needs) (λ c. search needs) add-buffer cast-buffer (λ c. search needs) slice-write-buffer
+    (λ c. search needs) (λ c. search needs) loop-again same-length returns)

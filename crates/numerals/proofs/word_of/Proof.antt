@@ -45,15 +45,5 @@ returns c = sym (c .before .loop .inv .1 .1 ∙ no-more 256 0 _ _ _ (c .loop-tes
 pub word-of-spec : {M : Type 1} → statement M
 word-of-spec =
     tie.close
-    (tie.spec
-    Inv-loop
-    μ-loop
-    loop-holds
-    mul-n
-    (λ c. search needs)
-    (λ c κs. search needs)
-    add-n
-    (λ c. search needs)
-    (λ c. search needs)
-    loop-again
-    returns)
+    (tie.spec Inv-loop
+    μ-loop loop-holds mul-n (λ c. search needs) (λ c κs. search needs) add-n (λ c. search needs) (λ c. search needs) loop-again returns)

@@ -11,7 +11,10 @@ returns-2 : tie.Need-returns-2
 returns-2 c = no-latitude _ _ _ _ _ (c .before .before .before .is-blank .ensures) (c .before .before .if1 .left) _ (c .before .is-blank2 .ensures) (c .if2 .taken)
 
 returns-3 : tie.Need-returns-3
-returns-3 c = no-longitude _ _ _ _ _ (c .before .before .before .before .before .is-blank .ensures) (c .before .before .before .before .if1 .left) _ (c .before .before .before .is-blank2 .ensures) (c .before .before .if2 .left) _ (c .before .is-blank3 .ensures) (c .if3 .taken)
+returns-3 c =
+    let tested = c .before .before .before .before in
+    let is-blank = tested .before in
+    no-longitude _ _ _ _ _ (is-blank .is-blank .ensures) (tested .if1 .left) _ (c .before .before .before .is-blank2 .ensures) (c .before .before .if2 .left) _ (c .before .is-blank3 .ensures) (c .if3 .taken)
 
 returns-4 : tie.Need-returns-4
 returns-4 c =

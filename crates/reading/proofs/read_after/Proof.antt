@@ -31,7 +31,9 @@ abbrev μ-loop : tie.MeasureT-loop
 
 -- where the call began
 abbrev call : tie.At-loop Inv-loop μ-loop → tie.Start Inv-loop μ-loop
-call c = c .before .before .before .before .before .before
+call c =
+    let there = c .before .before .before .before .before .before in
+    there
 
 -- the record and what its elements read as
 abbrev edition : tie.At-loop Inv-loop μ-loop → Edition
@@ -138,7 +140,9 @@ element-set-from-all-2 : tie.Need-element-set-from-all-2 Inv-loop μ-loop
 element-set-from-all-2 c = omega arith
 
 part-alone-of-end : tie.Need-part-alone-of-end Inv-loop μ-loop
-part-alone-of-end c = ends (turn (c .before .before .before .before)) _ (c .before .before .before .before .width-of .ensures)
+part-alone-of-end c =
+    let width-of = c .before .before .before .before in
+    ends (turn (width-of)) _ (width-of .width-of .ensures)
 
 alone-of-requires : tie.Need-alone-of-requires Inv-loop μ-loop
 alone-of-requires c κs = own-width _ _ _ (own-part (c .before .before .before .before .before))

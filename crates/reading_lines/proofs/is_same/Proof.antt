@@ -22,10 +22,14 @@ loop-holds : tie.Need-loop-holds Inv-loop μ-loop
 loop-holds c = (omega arith, (c .if1 .left, refl))
 
 returns-2 : tie.Need-returns-2 Inv-loop μ-loop
-returns-2 c = other-byte _ _ _ (c .before .before .before .before .loop .inv .1 .0) (c .before .before .before .before .loop .inv .1 .1) (c .before .before .before .loop-test .taken) (c .if2 .taken)
+returns-2 c =
+    let turn = c .before .before .before .before in
+    other-byte _ _ _ (turn .loop .inv .1 .0) (turn .loop .inv .1 .1) (c .before .before .before .loop-test .taken) (c .if2 .taken)
 
 loop-again : tie.Need-loop-again Inv-loop μ-loop
-loop-again c = (omega arith, (c .before .before .before .before .loop .inv .1 .0, same-byte _ _ _ (c .before .before .before .before .loop .inv .1 .0) (c .before .before .before .before .loop .inv .1 .1) (c .before .before .before .loop-test .taken) (c .if2 .left)))
+loop-again c =
+    let turn = c .before .before .before .before in
+    (omega arith, (turn .loop .inv .1 .0, same-byte _ _ _ (turn .loop .inv .1 .0) (turn .loop .inv .1 .1) (c .before .before .before .loop-test .taken) (c .if2 .left)))
 
 returns-3 : tie.Need-returns-3 Inv-loop μ-loop
 returns-3 c = same-end _ _ _ (c .before .loop .inv .1 .0) (c .before .loop .inv .1 .1) (c .loop-test .left)
@@ -33,15 +37,5 @@ returns-3 c = same-end _ _ _ (c .before .loop .inv .1 .0) (c .before .loop .inv 
 pub is-same-spec : {M : Type 1} → statement M
 is-same-spec =
     tie.close
-    (tie.spec
-    Inv-loop
-    μ-loop
-    returns
-    loop-holds
-    (λ c. search needs)
-    (λ c. search needs)
-    returns-2
-    (λ c. search needs)
-    (λ c. search needs)
-    loop-again
-    returns-3)
+    (tie.spec Inv-loop
+    μ-loop returns loop-holds (λ c. search needs) (λ c. search needs) returns-2 (λ c. search needs) (λ c. search needs) loop-again returns-3)

@@ -37,15 +37,5 @@ returns-2 c =
 pub is-written-back-spec : {M : Type 1} → statement M
 is-written-back-spec =
     tie.close
-    (tie.spec
-    (λ c κs. search needs)
-    (λ c κs. search needs)
-    (λ c. search needs)
-    (λ c κs. search needs)
-    (λ c. search needs)
-    array-share-prefix-buffer
-    slice-aggregate-is-same
-    (λ c κs. search needs)
-    (λ c. search needs)
-    returns
-    returns-2)
+    (tie.spec (λ c κs. search needs) (λ c κs. search needs) (λ c. search needs) (λ c κs. search needs) (λ c. search needs)
+    array-share-prefix-buffer slice-aggregate-is-same (λ c κs. search needs) (λ c. search needs) returns returns-2)

@@ -15,20 +15,17 @@ slice-aggregate-put-readings c =
 
 put-readings-requires : tie.Need-put-readings-requires
 put-readings-requires c κs =
+    let start = c .before .before .before .before .before .before in
     let spelled = c .before .before .before .put-number .ensures .0 in
-    (search needs, omega (arith, ap length (front spelled), decimal-short (c .before .before .before .before .before .before .args .count)))
+    (search needs, omega (arith, ap length (front spelled), decimal-short (start .args .count)))
 
 returns : tie.Need-returns
-returns c = rw (← front (c .before .before .before .before .before .before .put-number .ensures .0)) (c .before .before .put-readings .ensures)
+returns c =
+    let put-number = c .before .before .before .before .before .before in
+    rw (← front (put-number .put-number .ensures .0)) (c .before .before .put-readings .ensures)
 
 pub put-elements-spec : {M : Type 1} → statement M
 put-elements-spec =
     tie.close
-    (tie.spec
-    (λ c. search needs)
-    (λ c κs. search needs)
-    (λ c. search needs)
-    slice-aggregate-put-readings
-    put-readings-requires
-    (λ c. search needs)
-    returns)
+    (tie.spec (λ c. search needs) (λ c κs. search needs) (λ c. search needs)
+    slice-aggregate-put-readings put-readings-requires (λ c. search needs) returns)

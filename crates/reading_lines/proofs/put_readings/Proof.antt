@@ -22,7 +22,11 @@ loop-less : tie.Need-loop-less Inv-loop μ-loop
 loop-less c = omega (arith, c .before .before .before .before .before .loop-test .taken)
 
 loop-again : tie.Need-loop-again Inv-loop μ-loop
-loop-again c = lines-more (search needs) (c .before .before .before .before .before .before .loop .inv) (c .before .before .before .before .before .loop-test .taken) (c .before .before .before .before .before .before .before .before .before .pre .0) (search needs) (c .before .before .put-reading .ensures .0) (c .before .before .put-reading .ensures .1)
+loop-again c =
+    let tested = c .before .before .before .before .before in
+    let turn = tested .before in
+    let start = turn .before .before .before in
+    lines-more (search needs) (turn .loop .inv) (tested .loop-test .taken) (start .pre .0) (search needs) (c .before .before .put-reading .ensures .0) (c .before .before .put-reading .ensures .1)
 
 same-length : tie.Need-same-length Inv-loop μ-loop
 same-length c = c .before .loop .inv .long
@@ -33,15 +37,5 @@ returns c = lines-all (search needs) (c .before .loop .inv) (c .loop-test .left)
 pub put-readings-spec : {M : Type 1} → statement M
 put-readings-spec =
     tie.close
-    (tie.spec
-    Inv-loop
-    μ-loop
-    loop-holds
-    (λ c. search needs)
-    (λ c. search needs)
-    (λ c. search needs)
-    put-reading-requires
-    loop-less
-    loop-again
-    same-length
-    returns)
+    (tie.spec Inv-loop
+    μ-loop loop-holds (λ c. search needs) (λ c. search needs) (λ c. search needs) put-reading-requires loop-less loop-again same-length returns)

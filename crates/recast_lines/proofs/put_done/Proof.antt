@@ -11,22 +11,19 @@ use Rattle.recast_lines.proofs.put_done.Tie as tie
 returns : tie.Need-returns
 unfolding lineOf lineEnd bytesOf
 returns c =
-    let count = c .before .before .before .before .before .before .before .before .before .before .before .before .before .before .before .before .put-number .ensures .0 in
-    let number = c .before .before .before .before .before .before .before .before .before .before .before .put-numbered .ensures .0 in
-    let elements = c .before .before .before .before .before .before .before .put-lost .ensures .0 in
+    let put-lost = c .before .before .before .before .before .before .before in
+    let put-numbered = put-lost .before .before .before .before in
+    let put-number = put-numbered .before .before .before .before .before in
+    let count-known = put-number .before .before in
+    let count = put-number .put-number .ensures .0 in
+    let number = put-numbered .put-numbered .ensures .0 in
+    let elements = put-lost .put-lost .ensures .0 in
     let end = c .before .before .put-text .ensures in
-    (rw (← c .before .before .before .before .before .before .before .before .before .before .before .before .before .before .before .before .before .before .count .ensures) (also (also (also count number (omega arith)) elements (omega arith)) end (omega arith)), omega (arith, end .ends))
+    (rw (← count-known .count .ensures) (also (also (also count number (omega arith)) elements (omega arith)) end (omega arith)), omega (arith, end .ends))
 
 pub put-done-spec : {M : Type 1} → statement M
 put-done-spec =
     tie.close
     (tie.spec
-    (λ c κs. search needs)
-    (λ c κs. search needs)
-    (λ c. search needs)
-    (λ c κs. search needs)
-    (λ c κs. search needs)
-    (λ c. search needs)
-    (λ c κs. search needs)
-    (λ c. search needs)
-    returns)
+    (λ c κs. search needs) (λ c κs. search needs) (λ c. search needs) (λ c κs. search needs) (λ c κs. search needs) (λ c. search needs) (λ c κs. search needs)
+    (λ c. search needs) returns)

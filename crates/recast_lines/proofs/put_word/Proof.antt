@@ -33,7 +33,8 @@ put-numbered-requires c κs =
 
 loop-less : tie.Need-loop-less Inv-loop μ-loop
 loop-less c =
-    let l = c .before .before .before .before .before .before .loop in
+    let turn = c .before .before .before .before .before .before in
+    let l = turn .loop in
     omega (arith, and-le-r (l .left) (l .left - 1))
 
 loop-again : tie.Need-loop-again Inv-loop μ-loop
@@ -53,16 +54,5 @@ returns c = left-end (c .before .loop .inv .1) (told-none _ _ (c .loop-test .lef
 pub put-word-spec : {M : Type 1} → statement M
 put-word-spec =
     tie.close
-    (tie.spec
-    Inv-loop
-    μ-loop
-    loop-holds
-    cast-e
-    add-e
-    (λ c. search needs)
-    put-numbered-requires
-    (λ c. search needs)
-    loop-less
-    loop-again
-    same-length
-    returns)
+    (tie.spec Inv-loop
+    μ-loop loop-holds cast-e add-e (λ c. search needs) put-numbered-requires (λ c. search needs) loop-less loop-again same-length returns)

@@ -50,15 +50,6 @@ returns-2 c =
 pub fill-spec : {M : Type 1} → statement M
 fill-spec =
     tie.close
-    (tie.spec
-    slice-aggregate-copy
-    copy-requires
-    (λ c κs. search needs)
-    (λ c. search needs)
-    returns
-    sub-rest
-    part-rest-start
-    (λ c. search needs)
-    fill-rest-requires
-    (λ c. search needs)
+    (tie.spec slice-aggregate-copy
+    copy-requires (λ c κs. search needs) (λ c. search needs) returns sub-rest part-rest-start (λ c. search needs) fill-rest-requires (λ c. search needs)
     returns-2)

@@ -33,15 +33,5 @@ returns-2 c =
 pub fill-rest-spec : {M : Type 1} → statement M
 fill-rest-spec =
     tie.close
-    (tie.spec
-    (λ c κs. search needs)
-    (λ c. search needs)
-    (λ c κs. search needs)
-    (λ c. search needs)
-    returns
-    (λ c. search needs)
-    (λ c. search needs)
-    part-copy-end
-    (λ c κs. search needs)
-    (λ c. search needs)
-    returns-2)
+    (tie.spec (λ c κs. search needs) (λ c. search needs) (λ c κs. search needs) (λ c. search needs)
+    returns (λ c. search needs) (λ c. search needs) part-copy-end (λ c κs. search needs) (λ c. search needs) returns-2)

@@ -31,12 +31,5 @@ returns-2 c =
 pub recast-spec : {M : Type 1} → statement M
 recast-spec =
     tie.close
-    (tie.spec
-    (λ c κs. search needs)
-    (λ c. search needs)
-    recast-to-requires
-    (λ c. search needs)
-    (λ c κs. search needs)
-    (λ c. search needs)
-    returns
-    returns-2)
+    (tie.spec (λ c κs. search needs) (λ c. search needs)
+    recast-to-requires (λ c. search needs) (λ c κs. search needs) (λ c. search needs) returns returns-2)

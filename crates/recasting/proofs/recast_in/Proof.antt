@@ -41,13 +41,5 @@ returns-2 c =
 pub recast-in-spec : {M : Type 1} → statement M
 recast-in-spec =
     tie.close
-    (tie.spec
-    (λ c κs. search needs)
-    (λ c κs. search needs)
-    returns
-    (λ c. search needs)
-    slice-aggregate-row
-    make-requires
-    losses-of-requires
-    (λ c. search needs)
-    returns-2)
+    (tie.spec (λ c κs. search needs) (λ c κs. search needs)
+    returns (λ c. search needs) slice-aggregate-row make-requires losses-of-requires (λ c. search needs) returns-2)

@@ -11,20 +11,17 @@ use Rattle.report_lines.proofs.put_accepted.Tie as tie
 returns : tie.Need-returns
 unfolding acceptedLine lineEnd bytesOf
 returns c =
-    let count = c .before .before .before .before .before .before .before .before .before .before .before .before .put-number .ensures .0 in
-    let number = c .before .before .before .before .before .before .before .put-numbered .ensures .0 in
+    let put-numbered = c .before .before .before .before .before .before .before in
+    let put-number = put-numbered .before .before .before .before .before in
+    let number-known = put-number .before .before in
+    let count = put-number .put-number .ensures .0 in
+    let number = put-numbered .put-numbered .ensures .0 in
     let end = c .before .before .put-text .ensures in
-    (rw (← c .before .before .before .before .before .before .before .before .before .before .before .before .before .before .number .ensures) (also (also count number (omega arith)) end (omega arith)), omega (arith, end .ends))
+    (rw (← number-known .number .ensures) (also (also count number (omega arith)) end (omega arith)), omega (arith, end .ends))
 
 pub put-accepted-spec : {M : Type 1} → statement M
 put-accepted-spec =
     tie.close
     (tie.spec
-    (λ c κs. search needs)
-    (λ c κs. search needs)
-    (λ c. search needs)
-    (λ c κs. search needs)
-    (λ c. search needs)
-    (λ c κs. search needs)
-    (λ c. search needs)
+    (λ c κs. search needs) (λ c κs. search needs) (λ c. search needs) (λ c κs. search needs) (λ c. search needs) (λ c κs. search needs) (λ c. search needs)
     returns)

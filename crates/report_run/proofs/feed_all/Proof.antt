@@ -27,22 +27,39 @@ part-feed-end : tie.Need-part-feed-end Inv-loop μ-loop
 part-feed-end c = le-refl _
 
 add-at : tie.Need-add-at Inv-loop μ-loop
-add-at c = omega (arith, c .before .before .before .feed .ensures .within, rest (c .before .before .before .before .before .before .before .before .before .before .args .piece .now) (c .before .before .before .before .before .before .before .loop .at))
+add-at c =
+    let turn = c .before .before .before .before .before .before .before in
+    let start = turn .before .before .before in
+    omega (arith, c .before .before .before .feed .ensures .within, rest (start .args .piece .now) (turn .loop .at))
 
 slice-reshare-prefix-write-all : tie.Need-slice-reshare-prefix-write-all Inv-loop μ-loop
 slice-reshare-prefix-write-all c = omega (arith, c .before .before .before .feed .ensures .room, c .before .before .before .feed .kept .1 .1 .0)
 
 slice-aggregate-write-all : tie.Need-slice-aggregate-write-all Inv-loop μ-loop
-slice-aggregate-write-all c = sym (length-take-le _ _ (omega (arith, c .before .before .before .before .feed .ensures .room, c .before .before .before .before .feed .kept .1 .1 .0)))
+slice-aggregate-write-all c =
+    let feed = c .before .before .before .before in
+    sym (length-take-le _ _ (omega (arith, feed .feed .ensures .room, feed .feed .kept .1 .1 .0)))
 
 same-length : tie.Need-same-length Inv-loop μ-loop
-same-length c = c .before .before .before .before .before .before .feed .kept .1 .1 .0 ∙ c .before .before .before .before .before .before .before .before .before .before .loop .inv .1
+same-length c =
+    let feed = c .before .before .before .before .before .before in
+    let turn = feed .before .before .before .before in
+    feed .feed .kept .1 .1 .0 ∙ turn .loop .inv .1
 
 loop-less : tie.Need-loop-less Inv-loop μ-loop
-loop-less c = omega (arith, c .before .before .before .before .before .before .feed .ensures .within, rest (c .before .before .before .before .before .before .before .before .before .before .before .before .before .args .piece .now) (c .before .before .before .before .before .before .before .before .before .before .loop .at), c .before .before .before .before .before .before .feed .ensures .moves (omega (arith, c .before .before .before .before .before .before .before .before .before .before .before .before .before .pre, c .before .before .before .before .before .before .before .before .before .before .loop .inv .1)) (omega (arith, rest (c .before .before .before .before .before .before .before .before .before .before .before .before .before .args .piece .now) (c .before .before .before .before .before .before .before .before .before .before .loop .at), c .before .before .before .before .before .before .before .before .before .loop-test .taken)))
+loop-less c =
+    let feed = c .before .before .before .before .before .before in
+    let tested = feed .before .before .before in
+    let turn = tested .before in
+    let start = turn .before .before .before in
+    omega (arith, feed .feed .ensures .within, rest (start .args .piece .now) (turn .loop .at), feed .feed .ensures .moves (omega (arith, start .pre, turn .loop .inv .1)) (omega (arith, rest (start .args .piece .now) (turn .loop .at), tested .loop-test .taken)))
 
 loop-again : tie.Need-loop-again Inv-loop μ-loop
-loop-again c = (omega (arith, c .before .before .before .before .before .before .feed .ensures .within, rest (c .before .before .before .before .before .before .before .before .before .before .before .before .before .args .piece .now) (c .before .before .before .before .before .before .before .before .before .before .loop .at)), c .before .before .before .before .before .before .feed .kept .1 .1 .0 ∙ c .before .before .before .before .before .before .before .before .before .before .loop .inv .1)
+loop-again c =
+    let feed = c .before .before .before .before .before .before in
+    let turn = feed .before .before .before .before in
+    let start = turn .before .before .before in
+    (omega (arith, feed .feed .ensures .within, rest (start .args .piece .now) (turn .loop .at)), feed .feed .kept .1 .1 .0 ∙ turn .loop .inv .1)
 
 same-length-2 : tie.Need-same-length-2 Inv-loop μ-loop
 same-length-2 c = c .before .loop .inv .1
@@ -50,21 +67,6 @@ same-length-2 c = c .before .loop .inv .1
 pub feed-all-spec : {M : Type 1} → statement M
 feed-all-spec =
     tie.close
-    (tie.spec
-    Inv-loop
-    μ-loop
-    (λ c. search needs)
-    (λ c. search needs)
-    part-feed-start
-    part-feed-end
-    (λ c κs. search needs)
-    add-at
-    slice-reshare-prefix-write-all
-    slice-aggregate-write-all
-    (λ c κs. search needs)
-    same-length
-    (λ c. search needs)
-    loop-less
-    loop-again
-    same-length-2
-    (λ c. search needs))
+    (tie.spec Inv-loop
+    μ-loop (λ c. search needs) (λ c. search needs) part-feed-start part-feed-end (λ c κs. search needs) add-at slice-reshare-prefix-write-all
+    slice-aggregate-write-all (λ c κs. search needs) same-length (λ c. search needs) loop-less loop-again same-length-2 (λ c. search needs))

@@ -30,8 +30,9 @@ slice-write-held c = omega (arith, c .before .before .before .least .ensures)
 
 loop-again : tie.Need-loop-again Inv-loop μ-loop
 loop-again c =
+    let start = c .before .before .before .before .before .before in
     let l = c .before .before .loop in
-    let a = c .before .before .before .before .before .before .args in
+    let a = start .args in
     let n = c .before .before .before .least .ensures in
     (omega arith, (simp length-set (l .inv .1 .0), keep-turn (take (a .count) (a .held .now)) (a .bytes .now) (l .held) (a .count) (l .i) (l .inv .1 .1) (omega arith) (omega arith)))
 
@@ -43,27 +44,16 @@ same-length c = c .before .loop .inv .1 .0
 
 returns : tie.Need-returns Inv-loop μ-loop
 returns c =
+    let start = c .before .before .before .before .before in
     let l = c .before .loop in
-    let a = c .before .before .before .before .before .args in
+    let a = start .args in
     let n = c .before .before .least .ensures in
     let all : l .i ≡ c .before .before .least .result = omega arith in
-    (omega arith, ap (λ (k : ℕ). take (a .count + k) (l .held)) (sym all) ∙ l .inv .1 .1 ∙ ap (λ (k : ℕ). take (a .count) (a .held .now) ++ take k (a .bytes .now)) all ∙ keep-end (a .held .now) (a .bytes .now) (a .count) _ (c .before .before .before .before .before .pre .0) (c .before .before .before .before .before .pre .1) n)
+    (omega arith, ap (λ (k : ℕ). take (a .count + k) (l .held)) (sym all) ∙ l .inv .1 .1 ∙ ap (λ (k : ℕ). take (a .count) (a .held .now) ++ take k (a .bytes .now)) all ∙ keep-end (a .held .now) (a .bytes .now) (a .count) _ (start .pre .0) (start .pre .1) n)
 
 pub keep-spec : {M : Type 1} → statement M
 keep-spec =
     tie.close
-    (tie.spec
-    Inv-loop
-    μ-loop
-    (λ c. search needs)
-    (λ c κs. search needs)
-    loop-holds
-    shared-slice-read-held
-    add-held
-    slice-write-held
-    (λ c. search needs)
-    (λ c. search needs)
-    loop-again
-    add-result
-    same-length
-    returns)
+    (tie.spec Inv-loop
+    μ-loop (λ c. search needs) (λ c κs. search needs) loop-holds shared-slice-read-held add-held slice-write-held (λ c. search needs) (λ c. search needs)
+    loop-again add-result same-length returns)

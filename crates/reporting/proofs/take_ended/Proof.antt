@@ -9,26 +9,21 @@ use Rattle.reporting.proofs.take_ended.Tie as tie
 
 returns : tie.Need-returns
 returns c =
-    let a = c .before .before .before .before .before .before .before .before .args in
-    rw (c .before .before .before .before .if1 .taken) (cut-tells (a .ledger) (a .bytes .now) (c .before .before .take-line .ensures))
+    let tested = c .before .before .before .before in
+    let start = tested .before .before .before .before in
+    let a = start .args in
+    rw (tested .if1 .taken) (cut-tells (a .ledger) (a .bytes .now) (c .before .before .take-line .ensures))
 
 slice-aggregate-take-line : tie.Need-slice-aggregate-take-line
 slice-aggregate-take-line c = sym (length-take-le _ _ (omega arith))
 
 returns-2 : tie.Need-returns-2
-returns-2 c = rw (← c .before .before .before .before .before .before .before .keep .ensures .1) (c .before .before .take-line2 .ensures)
+returns-2 c =
+    let keep = c .before .before .before .before .before .before .before in
+    rw (← keep .keep .ensures .1) (c .before .before .take-line2 .ensures)
 
 pub take-ended-spec : {M : Type 1} → statement M
 take-ended-spec =
     tie.close
-    (tie.spec
-    (λ c κs. search needs)
-    (λ c. search needs)
-    returns
-    (λ c κs. search needs)
-    (λ c. search needs)
-    slice-aggregate-take-line
-    (λ c κs. search needs)
-    (λ c. search needs)
-    (λ c. search needs)
-    returns-2)
+    (tie.spec (λ c κs. search needs) (λ c. search needs)
+    returns (λ c κs. search needs) (λ c. search needs) slice-aggregate-take-line (λ c κs. search needs) (λ c. search needs) (λ c. search needs) returns-2)

@@ -37,14 +37,5 @@ returns-3 c = sym (c .before .loop .inv .1 ∙ end (between _ _) _ _ (c .loop-te
 pub all-between-spec : {M : Type 1} → statement M
 all-between-spec =
     tie.close
-    (tie.spec
-    Inv-loop
-    μ-loop
-    (λ c. search needs)
-    (λ c. search needs)
-    returns
-    returns-2
-    (λ c. search needs)
-    (λ c. search needs)
-    loop-again
-    returns-3)
+    (tie.spec Inv-loop
+    μ-loop (λ c. search needs) (λ c. search needs) returns returns-2 (λ c. search needs) (λ c. search needs) loop-again returns-3)

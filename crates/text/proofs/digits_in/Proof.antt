@@ -32,14 +32,17 @@ add-n : tie.Need-add-n Inv-loop μ-loop
 add-n c = omega (arith, small (c .before .before .before .before), c .value .ensures)
 
 loop-again : tie.Need-loop-again Inv-loop μ-loop
-loop-again c = (
-  omega arith,
-  (
-    below-more _ _ _ (c .before .before .before .before .before .loop .inv .1 .0) (omega (arith, c .value .ensures)),
-    c .before .before .before .before .before .loop .inv .1 .1 ∙ digit-more _ _ _ (c .before .before .before .before .loop-test .taken) (rw (le-leb _ _ (c .before .before .if1 .left), le-leb _ _ (c .before .if2 .left))) ∙
-        ap (λ (d : ℕ). digitsFrom (c .before .before .before .before .before .loop .n * 10 + d) (drop (c .before .before .before .before .before .loop .i + 1) (c .before .before .before .before .before .before .before .args .text .now))) (sym (c .value .ensures)),
-  ),
-)
+loop-again c =
+    let tested = c .before .before .before .before in
+    let turn = tested .before in
+    let start = turn .before .before in (
+      omega arith,
+      (
+        below-more _ _ _ (turn .loop .inv .1 .0) (omega (arith, c .value .ensures)),
+        turn .loop .inv .1 .1 ∙ digit-more _ _ _ (tested .loop-test .taken) (rw (le-leb _ _ (c .before .before .if1 .left), le-leb _ _ (c .before .if2 .left))) ∙
+            ap (λ (d : ℕ). digitsFrom (turn .loop .n * 10 + d) (drop (turn .loop .i + 1) (start .args .text .now))) (sym (c .value .ensures)),
+      ),
+    )
 
 returns-3 : tie.Need-returns-3 Inv-loop μ-loop
 returns-3 c = sym (c .before .loop .inv .1 .1 ∙ digits-end _ _ _ (c .loop-test .left))
@@ -47,17 +50,6 @@ returns-3 c = sym (c .before .loop .inv .1 .1 ∙ digits-end _ _ _ (c .loop-test
 pub digits-in-spec : {M : Type 1} → statement M
 digits-in-spec =
     tie.close
-    (tie.spec
-    Inv-loop
-    μ-loop
-    (λ c. search needs)
-    (λ c. search needs)
-    returns
-    returns-2
-    mul-n
-    (λ c κs. search needs)
-    add-n
-    (λ c. search needs)
-    (λ c. search needs)
-    loop-again
+    (tie.spec Inv-loop
+    μ-loop (λ c. search needs) (λ c. search needs) returns returns-2 mul-n (λ c κs. search needs) add-n (λ c. search needs) (λ c. search needs) loop-again
     returns-3)

@@ -22,13 +22,18 @@ passed : (p : ℕ → Bool) {x y : ℕ} {t : Bool} → t ≡ p y → y ≡ x →
 passed p e f = e ∙ ap p f
 
 returns : tie.Need-returns Inv-loop μ-loop
-returns c = run-off (either _ _ _ _) _ _ (c .before .before .before .before .before .loop .inv .1) (c .before .before .before .before .loop-test .taken) (sym (passed (either _ _ _ _) (c .before .is-either .ensures) (c .before .before .value .ensures)) ∙ not-true _ (c .if1 .taken))
+returns c =
+    let tested = c .before .before .before .before in
+    let turn = tested .before in
+    run-off (either _ _ _ _) _ _ (turn .loop .inv .1) (tested .loop-test .taken) (sym (passed (either _ _ _ _) (c .before .is-either .ensures) (c .before .before .value .ensures)) ∙ not-true _ (c .if1 .taken))
 
 loop-again : tie.Need-loop-again Inv-loop μ-loop
-loop-again c = (
-  omega arith,
-  run-on (either _ _ _ _) _ _ (c .before .before .before .before .before .loop .inv .1) (c .before .before .before .before .loop-test .taken) (sym (passed (either _ _ _ _) (c .before .is-either .ensures) (c .before .before .value .ensures)) ∙ not-false _ (c .if1 .left)),
-)
+loop-again c =
+    let tested = c .before .before .before .before in
+    let turn = tested .before in (
+      omega arith,
+      run-on (either _ _ _ _) _ _ (turn .loop .inv .1) (tested .loop-test .taken) (sym (passed (either _ _ _ _) (c .before .is-either .ensures) (c .before .before .value .ensures)) ∙ not-false _ (c .if1 .left)),
+    )
 
 returns-2 : tie.Need-returns-2 Inv-loop μ-loop
 returns-2 c = run-end (either _ _ _ _) _ _ (c .before .loop .inv .1) (c .loop-test .left)
@@ -36,15 +41,6 @@ returns-2 c = run-end (either _ _ _ _) _ _ (c .before .loop .inv .1) (c .loop-te
 pub front-spec : {M : Type 1} → statement M
 front-spec =
     tie.close
-    (tie.spec
-    Inv-loop
-    μ-loop
-    (λ c. search needs)
-    (λ c. search needs)
-    (λ c κs. search needs)
-    (λ c κs. search needs)
-    returns
-    (λ c. search needs)
-    (λ c. search needs)
-    loop-again
+    (tie.spec Inv-loop
+    μ-loop (λ c. search needs) (λ c. search needs) (λ c κs. search needs) (λ c κs. search needs) returns (λ c. search needs) (λ c. search needs) loop-again
     returns-2)

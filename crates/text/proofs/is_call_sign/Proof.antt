@@ -17,12 +17,5 @@ returns-3 c = c .is-blank .ensures ∙ sign-rest _ _ (c .before .before .before 
 pub is-call-sign-spec : {M : Type 1} → statement M
 is-call-sign-spec =
     tie.close
-    (tie.spec
-    (λ c κs. search needs)
-    returns
-    returns-2
-    (λ c. search needs)
-    (λ c. search needs)
-    (λ c. search needs)
-    (λ c κs. search needs)
-    returns-3)
+    (tie.spec (λ c κs. search needs)
+    returns returns-2 (λ c. search needs) (λ c. search needs) (λ c. search needs) (λ c κs. search needs) returns-3)

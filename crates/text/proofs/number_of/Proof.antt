@@ -44,15 +44,5 @@ returns c = sym (c .before .loop .inv .1 .1 ∙ no-more 10 48 _ _ _ (c .loop-tes
 pub number-of-spec : {M : Type 1} → statement M
 number-of-spec =
     tie.close
-    (tie.spec
-    Inv-loop
-    μ-loop
-    (λ c. search needs)
-    mul-n
-    (λ c. search needs)
-    (λ c κs. search needs)
-    add-n
-    (λ c. search needs)
-    (λ c. search needs)
-    loop-again
-    returns)
+    (tie.spec Inv-loop
+    μ-loop (λ c. search needs) mul-n (λ c. search needs) (λ c κs. search needs) add-n (λ c. search needs) (λ c. search needs) loop-again returns)

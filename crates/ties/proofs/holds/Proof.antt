@@ -14,7 +14,10 @@ at-tie s e = ap (Ties.tie (s .args .edition) (s .args .line .now)) (sym e)
 
 returns : tie.Need-returns
 unfolding Ties.tie
-returns c = of-three placeTie (c .place-tie .ensures) (c .before .before .before .text-of .ensures .0) (c .before .before .text-of2 .ensures .0) (c .before .text-of3 .ensures .0) ∙ at-tie (c .before .before .before .before .before .before) (c .before .before .before .before .match .keys1)
+returns c =
+    let match = c .before .before .before .before in
+    let there = match .before .before in
+    of-three placeTie (c .place-tie .ensures) (c .before .before .before .text-of .ensures .0) (c .before .before .text-of2 .ensures .0) (c .before .text-of3 .ensures .0) ∙ at-tie (there) (match .match .keys1)
 
 returns-2 : tie.Need-returns-2
 unfolding Ties.tie
@@ -56,42 +59,9 @@ returns-11 c = no-tie _ _ _ (c .match .rest)
 pub holds-spec : {M : Type 1} → statement M
 holds-spec =
     tie.close
-    (tie.spec
-    (λ c κs. search needs)
-    (λ c κs. search needs)
-    (λ c κs. search needs)
-    (λ c κs. search needs)
-    (λ c κs. search needs)
-    (λ c κs. search needs)
-    (λ c κs. search needs)
-    (λ c κs. search needs)
-    (λ c κs. search needs)
-    (λ c κs. search needs)
-    (λ c κs. search needs)
-    (λ c κs. search needs)
-    (λ c κs. search needs)
-    (λ c κs. search needs)
-    (λ c κs. search needs)
-    (λ c κs. search needs)
-    (λ c κs. search needs)
-    (λ c κs. search needs)
-    (λ c κs. search needs)
-    (λ c κs. search needs)
-    (λ c κs. search needs)
-    (λ c κs. search needs)
-    (λ c κs. search needs)
-    (λ c κs. search needs)
-    (λ c κs. search needs)
-    (λ c κs. search needs)
-    (λ c κs. search needs)
-    returns
-    returns-2
-    returns-3
-    returns-4
-    returns-5
-    returns-6
-    returns-7
-    returns-8
-    returns-9
-    returns-10
-    returns-11)
+    (tie.spec (λ c κs. search needs) (λ c κs. search needs) (λ c κs. search needs) (λ c κs. search needs) (λ c κs. search needs) (λ c κs. search needs)
+    (λ c κs. search needs) (λ c κs. search needs) (λ c κs. search needs) (λ c κs. search needs) (λ c κs. search needs) (λ c κs. search needs)
+    (λ c κs. search needs) (λ c κs. search needs) (λ c κs. search needs) (λ c κs. search needs) (λ c κs. search needs) (λ c κs. search needs)
+    (λ c κs. search needs) (λ c κs. search needs) (λ c κs. search needs) (λ c κs. search needs) (λ c κs. search needs) (λ c κs. search needs)
+    (λ c κs. search needs) (λ c κs. search needs) (λ c κs. search needs) returns returns-2 returns-3 returns-4 returns-5 returns-6 returns-7 returns-8 returns-9
+    returns-10 returns-11)

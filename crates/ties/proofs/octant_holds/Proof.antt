@@ -17,10 +17,5 @@ returns-2 c = or-goes-on _ _ (c .before .before .before .before .is-blank .ensur
 pub octant-holds-spec : {M : Type 1} → statement M
 octant-holds-spec =
     tie.close
-    (tie.spec
-    (λ c κs. search needs)
-    (λ c κs. search needs)
-    (λ c κs. search needs)
-    (λ c κs. search needs)
-    returns
-    returns-2)
+    (tie.spec (λ c κs. search needs) (λ c κs. search needs) (λ c κs. search needs) (λ c κs. search needs)
+    returns returns-2)

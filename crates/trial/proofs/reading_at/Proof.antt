@@ -8,8 +8,10 @@ use Rattle.trial.proofs.reading_at.Tie as tie
 
 returns : tie.Need-returns
 returns c =
-    c .reading-of .ensures ∙ read-at _ _ _ _ _ _ _ _ (c .before .before .before .before .before .number-at .ensures)
-    (c .before .before .before .before .number-at2 .ensures)
+    let number-at = c .before .before .before .before in
+    let number-at-2 = number-at .before in
+    c .reading-of .ensures ∙ read-at _ _ _ _ _ _ _ _ (number-at-2 .number-at .ensures)
+    (number-at .number-at2 .ensures)
     (c .before .before .before .number-at3 .ensures)
     (c .before .before .number-at4 .ensures)
     (itself (c .before .amount-at .result) (record { sfits = c .before .amount-at .ok }) ∙ c .before .amount-at .ensures)
@@ -18,14 +20,5 @@ pub reading-at-spec : {M : Type 1} → statement M
 reading-at-spec =
     tie.close
     (tie.spec
-    (λ c. search needs)
-    (λ c κs. search needs)
-    (λ c. search needs)
-    (λ c κs. search needs)
-    (λ c. search needs)
-    (λ c κs. search needs)
-    (λ c. search needs)
-    (λ c κs. search needs)
-    (λ c κs. search needs)
-    (λ c κs. search needs)
-    returns)
+    (λ c. search needs) (λ c κs. search needs) (λ c. search needs) (λ c κs. search needs) (λ c. search needs) (λ c κs. search needs) (λ c. search needs)
+    (λ c κs. search needs) (λ c κs. search needs) (λ c κs. search needs) returns)

@@ -20,8 +20,12 @@ put-all-requires c κs =
 
 returns : tie.Need-returns
 returns c =
-    let before = c .before .before .before .before in
-    let number = c .before .before .before .before .before .before .before .before .before .before .before .before in
+    let there-known = c .before .before .before .before in
+    let edition-in = there-known .before .before .before .before .before .before in
+    let place = edition-in .before in
+    let there-3 = place .before in
+    let before = there-known in
+    let number = there-3 in
     let start = number .before .before .before .before .before in
     let read = number .before .before .read .ensures in
     let verdict = number .before .verdict .ensures ∙ ap (λ (r : Readings). answerVerdict (r .answer)) read in
@@ -32,14 +36,16 @@ returns c =
         laid _ (numbersOf es) (now (start .args .numbers)) _ 404 there (numbers-long (readAs es) 1 101) (c .before .before .before .put-all .ensures .0 ∙ ap (λ (r : Readings). numbersOf (r .entries) ++ drop 404 (now (start .args .numbers))) read),
         (
           laid _ (amountsOf es) (now (start .args .amounts)) _ 101 there (amounts-long (readAs es) 1 101) (c .before .before .before .put-all .ensures .1 ∙ ap (λ (r : Readings). amountsOf (r .entries) ++ drop 101 (now (start .args .amounts))) read),
-          (c .before .before .before .before .before .before .before .before .before .before .edition-in .ensures ∙ ap (λ (r : Readings). editionIn (r .answer)) read, c .before .before .before .before .before .before .before .before .before .before .before .place .ensures ∙ ap verdictPlace verdict),
+          (edition-in .edition-in .ensures ∙ ap (λ (r : Readings). editionIn (r .answer)) read, place .place .ensures ∙ ap verdictPlace verdict),
         ),
       ),
     )
 
 returns-2 : tie.Need-returns-2
 returns-2 c =
-    let number = c .before .before .before .before .before .before in
+    let edition-in = c .before .before .before .before in
+    let place = edition-in .before in
+    let number = place .before in
     let start = number .before .before .before .before .before in
     let es = readOf (now (start .args .line)) .entries in
     let read = number .before .before .read .ensures in
@@ -50,7 +56,7 @@ returns-2 c =
         unlaid _ (numbersOf es) _ none,
         (
           unlaid _ (amountsOf es) _ none,
-          (c .before .before .before .before .edition-in .ensures ∙ ap (λ (r : Readings). editionIn (r .answer)) read, c .before .before .before .before .before .place .ensures ∙ ap verdictPlace verdict),
+          (edition-in .edition-in .ensures ∙ ap (λ (r : Readings). editionIn (r .answer)) read, place .place .ensures ∙ ap verdictPlace verdict),
         ),
       ),
     )

@@ -8,8 +8,10 @@ use Rattle.trial.proofs.trial_show.Tie as tie
 
 returns : tie.Need-returns
 returns c =
-    let sign = c .before .before .before .before .before .show-call-sign .ensures in
-    (ap length sign, shown _ _ _ _ sign (c .before .before .before .before .if1 .taken) (c .before .before .copy .ensures .1))
+    let tested = c .before .before .before .before in
+    let show-call-sign = tested .before in
+    let sign = show-call-sign .show-call-sign .ensures in
+    (ap length sign, shown _ _ _ _ sign (tested .if1 .taken) (c .before .before .copy .ensures .1))
 
 returns-2 : tie.Need-returns-2
 returns-2 c = (ap length (c .before .show-call-sign .ensures), not-shown _ _ _ (c .before .show-call-sign .ensures) (c .if1 .left))

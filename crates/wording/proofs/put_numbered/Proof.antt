@@ -7,7 +7,8 @@ use Rattle.wording.proofs.put_numbered.Tie as tie
 
 returns : tie.Need-returns
 returns c =
-    let text = c .before .before .before .before .before .before .put-text .ensures in
+    let put-text = c .before .before .before .before .before .before in
+    let text = put-text .put-text .ensures in
     let number = c .before .before .put-number .ensures in
     (also text (number .0) (omega arith), omega (arith, text .ends, number .1))
 

@@ -13,21 +13,23 @@ use Rattle.wording.proofs.put_signed.Tie as tie
 
 returns : tie.Need-returns
 unfolding bytesOf
-returns c = (renamed (with-sign (c .before .before .before .before .before .before .before .before .before .args .n) (c .before .before .before .before .before .before .before .magnitude .ensures .0 ∙ ap natAbs (itself _ (c .before .before .before .before .before .before .before .before .before .fits .n))) (ap negative (sym (itself _ (c .before .before .before .before .before .before .before .before .before .fits .n))) ∙ sym (c .before .before .before .before .before .before .is-negative .ensures) ∙ c .before .before .before .before .before .if1 .taken)) (c .before .before .put-numbered .ensures .0), omega arith)
+returns c =
+    let tested = c .before .before .before .before .before in
+    let is-negative = tested .before in
+    let magnitude = is-negative .before in
+    let start = magnitude .before .before in
+    (renamed (with-sign (start .args .n) (magnitude .magnitude .ensures .0 ∙ ap natAbs (itself _ (start .fits .n))) (ap negative (sym (itself _ (start .fits .n))) ∙ sym (is-negative .is-negative .ensures) ∙ tested .if1 .taken)) (c .before .before .put-numbered .ensures .0), omega arith)
 
 returns-2 : tie.Need-returns-2
-returns-2 c = (renamed (no-sign (c .before .before .before .before .before .before .before .before .args .n) (c .before .before .before .before .before .before .magnitude .ensures .0 ∙ ap natAbs (itself _ (c .before .before .before .before .before .before .before .before .fits .n))) (ap negative (sym (itself _ (c .before .before .before .before .before .before .before .before .fits .n))) ∙ sym (c .before .before .before .before .before .is-negative .ensures) ∙ c .before .before .before .before .if1 .left)) (c .before .before .put-number .ensures .0), omega arith)
+returns-2 c =
+    let tested = c .before .before .before .before in
+    let is-negative = tested .before in
+    let magnitude = is-negative .before in
+    let start = magnitude .before .before in
+    (renamed (no-sign (start .args .n) (magnitude .magnitude .ensures .0 ∙ ap natAbs (itself _ (start .fits .n))) (ap negative (sym (itself _ (start .fits .n))) ∙ sym (is-negative .is-negative .ensures) ∙ tested .if1 .left)) (c .before .before .put-number .ensures .0), omega arith)
 
 pub put-signed-spec : {M : Type 1} → statement M
 put-signed-spec =
     tie.close
-    (tie.spec
-    (λ c κs. search needs)
-    (λ c κs. search needs)
-    (λ c. search needs)
-    (λ c κs. search needs)
-    (λ c. search needs)
-    returns
-    (λ c κs. search needs)
-    (λ c. search needs)
-    returns-2)
+    (tie.spec (λ c κs. search needs) (λ c κs. search needs) (λ c. search needs) (λ c κs. search needs) (λ c. search needs)
+    returns (λ c κs. search needs) (λ c. search needs) returns-2)

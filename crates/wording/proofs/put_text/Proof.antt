@@ -42,16 +42,5 @@ returns c = text-end (c .before .before .args .at) _ (c .before .loop .i) (c .be
 pub put-text-spec : {M : Type 1} → statement M
 put-text-spec =
     tie.close
-    (tie.spec
-    Inv-loop
-    μ-loop
-    loop-holds
-    (λ c. search needs)
-    add-out
-    slice-write-out
-    (λ c. search needs)
-    (λ c. search needs)
-    loop-again
-    add-result
-    same-length
-    returns)
+    (tie.spec Inv-loop
+    μ-loop loop-holds (λ c. search needs) add-out slice-write-out (λ c. search needs) (λ c. search needs) loop-again add-result same-length returns)

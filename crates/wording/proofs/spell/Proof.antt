@@ -42,16 +42,5 @@ returns c = put-end 10 48 (c .before .before .args .at) (c .before .loop .k) (c 
 pub spell-spec : {M : Type 1} → statement M
 spell-spec =
     tie.close
-    (tie.spec
-    Inv-loop
-    μ-loop
-    loop-holds
-    (λ c. search needs)
-    add-out
-    cast-out
-    (λ c. search needs)
-    slice-write-out
-    (λ c. search needs)
-    loop-again
-    same-length
-    returns)
+    (tie.spec Inv-loop
+    μ-loop loop-holds (λ c. search needs) add-out cast-out (λ c. search needs) slice-write-out (λ c. search needs) loop-again same-length returns)

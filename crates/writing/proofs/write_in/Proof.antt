@@ -87,22 +87,7 @@ returns-4 c =
 pub write-in-spec : {M : Type 1} → statement M
 write-in-spec =
     tie.close
-    (tie.spec
-    (λ c κs. search needs)
-    (λ c. search needs)
-    (λ c κs. search needs)
-    array-share-prefix-row
-    slice-aggregate-first-unwritten
-    first-unwritten-requires
-    (λ c κs. search needs)
-    returns
-    array-share-prefix-row-2
-    slice-aggregate-first-broken
-    (λ c κs. search needs)
-    returns-2
-    returns-3
-    array-share-prefix-row-3
-    slice-aggregate-copy
-    copy-requires
-    (λ c. search needs)
+    (tie.spec (λ c κs. search needs) (λ c. search needs) (λ c κs. search needs)
+    array-share-prefix-row slice-aggregate-first-unwritten first-unwritten-requires (λ c κs. search needs) returns array-share-prefix-row-2
+    slice-aggregate-first-broken (λ c κs. search needs) returns-2 returns-3 array-share-prefix-row-3 slice-aggregate-copy copy-requires (λ c. search needs)
     returns-4)

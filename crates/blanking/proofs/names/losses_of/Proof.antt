@@ -47,13 +47,5 @@ returns c =
 pub losses-of-spec : {M : Type 1} → statement M
 losses-of-spec =
     tie.close
-    (tie.spec
-    (λ c κs. search needs)
-    (λ c κs. search needs)
-    name-codes-requires
-    (λ c κs. search needs)
-    name-country-requires
-    name-version-requires
-    name-flags-requires
-    (λ c κs. search needs)
-    returns)
+    (tie.spec (λ c κs. search needs) (λ c κs. search needs)
+    name-codes-requires (λ c κs. search needs) name-country-requires name-version-requires name-flags-requires (λ c κs. search needs) returns)

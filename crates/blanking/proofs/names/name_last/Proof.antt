@@ -39,12 +39,5 @@ returns-3 c =
 pub name-last-spec : {M : Type 1} → statement M
 name-last-spec =
     tie.close
-    (tie.spec
-    (λ c κs. search needs)
-    returns
-    (λ c κs. search needs)
-    name-filled-requires
-    returns-2
-    (λ c κs. search needs)
-    name-later-requires
-    returns-3)
+    (tie.spec (λ c κs. search needs)
+    returns (λ c κs. search needs) name-filled-requires returns-2 (λ c κs. search needs) name-later-requires returns-3)

@@ -25,22 +25,9 @@ pub legal-texts-spec : {M : Type 1} → statement M
 unfolding page element
 legal-texts-spec =
     tie.close
-    (tie.spec
-    (λ c κs. search needs)
-    (λ c κs. search needs)
-    (λ c κs. search needs)
-    (λ c κs. search needs)
-    (λ c κs. search needs)
-    (λ c κs. search needs)
-    (λ c κs. search needs)
-    (λ c κs. search needs)
-    (λ c κs. search needs)
-    (λ c κs. search needs)
-    (λ c κs. search needs)
-    (λ c κs. search needs)
-    (λ c κs. search needs)
-    (λ c κs. search needs)
-    (λ c κs. search needs)
+    (tie.spec (λ c κs. search needs) (λ c κs. search needs) (λ c κs. search needs) (λ c κs. search needs) (λ c κs. search needs) (λ c κs. search needs)
+    (λ c κs. search needs) (λ c κs. search needs) (λ c κs. search needs) (λ c κs. search needs) (λ c κs. search needs) (λ c κs. search needs)
+    (λ c κs. search needs) (λ c κs. search needs) (λ c κs. search needs)
     (λ c. rw (c .match .keys1) (in-all (c .before .args .edition) _))
     (λ c. rw (c .match .keys2) (in-all (c .before .args .edition) _))
     (λ c. rw (c .match .keys3) (in-all (c .before .args .edition) _))
@@ -114,7 +101,6 @@ legal-texts-spec =
     (λ c. rw (c .before .match .keys71) (c .in-edition11 .ensures))
     (λ c. rw (c .before .match .keys72) (c .in-edition12 .ensures))
     (λ c. rw (c .before .match .keys73) (c .in-edition13 .ensures))
-    flag-returns
-    later-flag-returns
+    flag-returns later-flag-returns
     (λ c. before-first (c .before .before .args .edition) _ (c .if1 .taken))
     (λ c. past-last (c .before .before .before .before .args .edition) _ (c .if3 .left)))

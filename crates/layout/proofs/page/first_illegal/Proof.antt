@@ -88,19 +88,6 @@ returns-2 c = sym (end (legal _ _) _ _ (c .loop-test .left)) ∙ whole (c .befor
 pub first-illegal-spec : {M : Type 1} → statement M
 first-illegal-spec =
     tie.close
-    (tie.spec
-    Inv-loop
-    μ-loop
-    (λ c κs. search needs)
-    loop-holds
-    (λ c κs. search needs)
-    add-end
-    (λ c. search needs)
-    (λ c. search needs)
-    part-is-legal-end
-    is-legal-requires
-    returns
-    add-e
-    (λ c. search needs)
-    loop-again
-    returns-2)
+    (tie.spec Inv-loop
+    μ-loop (λ c κs. search needs) loop-holds (λ c κs. search needs) add-end (λ c. search needs) (λ c. search needs) part-is-legal-end is-legal-requires returns
+    add-e (λ c. search needs) loop-again returns-2)

@@ -24,7 +24,9 @@ is-suited-requires : tie.Need-is-suited-requires Inv-loop μ-loop
 is-suited-requires c κs = rw (c .digit-of .ensures) (omega (arith, c .before .loop-test .taken))
 
 returns : tie.Need-returns Inv-loop μ-loop
-returns c = taken _ _ _ _ _ _ _ _ (c .before .before .digit-of .ensures) (c .before .is-suited .ensures) (c .before .before .before .before .loop .inv .1 .1) (c .before .before .before .before .loop .inv .1 .0) (c .if1 .taken)
+returns c =
+    let turn = c .before .before .before .before in
+    taken _ _ _ _ _ _ _ _ (c .before .before .digit-of .ensures) (c .before .is-suited .ensures) (turn .loop .inv .1 .1) (turn .loop .inv .1 .0) (c .if1 .taken)
 
 loop-again : tie.Need-loop-again Inv-loop μ-loop
 loop-again c =
@@ -47,14 +49,5 @@ returns-2 c =
 pub first-digit-spec : {M : Type 1} → statement M
 first-digit-spec =
     tie.close
-    (tie.spec
-    Inv-loop
-    μ-loop
-    loop-holds
-    digit-of-requires
-    is-suited-requires
-    returns
-    (λ c. search needs)
-    (λ c. search needs)
-    loop-again
-    returns-2)
+    (tie.spec Inv-loop
+    μ-loop loop-holds digit-of-requires is-suited-requires returns (λ c. search needs) (λ c. search needs) loop-again returns-2)

@@ -17,10 +17,5 @@ returns-3 c = not-same _ _ _ _ _ _ _ (c .before .before .before .may-stand .ensu
 pub is-suited-spec : {M : Type 1} → statement M
 is-suited-spec =
     tie.close
-    (tie.spec
-    (λ c κs. search needs)
-    returns
-    (λ c κs. search needs)
-    (λ c κs. search needs)
-    returns-2
-    returns-3)
+    (tie.spec (λ c κs. search needs)
+    returns (λ c κs. search needs) (λ c κs. search needs) returns-2 returns-3)

@@ -34,14 +34,5 @@ returns c = let l = c .before .loop in end-block _ _ (l .k) (l .inv .1) (c .loop
 pub ends-in-sixteen-spec : {M : Type 1} → statement M
 ends-in-sixteen-spec =
     tie.close
-    (tie.spec
-    Inv-loop
-    μ-loop
-    loop-holds
-    add-ends-line
-    shared-slice-read-ends-line
-    (λ c κs. search needs)
-    (λ c. search needs)
-    (λ c. search needs)
-    loop-again
-    returns)
+    (tie.spec Inv-loop
+    μ-loop loop-holds add-ends-line shared-slice-read-ends-line (λ c κs. search needs) (λ c. search needs) (λ c. search needs) loop-again returns)

@@ -41,14 +41,5 @@ returns c = (end-found _ _ (c .find .ensures .0) ∙ sym (c .before .before .loo
 pub line-end-spec : {M : Type 1} → statement M
 line-end-spec =
     tie.close
-    (tie.spec
-    Inv-loop
-    μ-loop
-    loop-holds
-    (λ c. search needs)
-    ends-in-sixteen-requires
-    add-at
-    loop-less
-    loop-again
-    find-requires
-    returns)
+    (tie.spec Inv-loop
+    μ-loop loop-holds (λ c. search needs) ends-in-sixteen-requires add-at loop-less loop-again find-requires returns)

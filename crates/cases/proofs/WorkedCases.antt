@@ -11,7 +11,7 @@ use Rattle.numerals.specs.Numerals.{spelled}
 use Rattle.element_sets.specs.ElementSets.{passing, bits, setOf, hasElement}
 use Rattle.refusals.specs.Lent.{inRoom}
 use Rattle.calendar.specs.Calendar.{leaps, lastDay}
-use Rattle.layout.specs.Page.{element, page, columns, startOf, textOf, legal}
+use Rattle.layout.specs.Page.{element, page, columns, startOf, textOf, legal, isText, isDeparture, isCoordinate, isSign, isTemperature}
 use Rattle.layout.specs.Records.{rowFrom, recordFrom}
 use Rattle.places.specs.Places.{south, west, octantFits, placeAt, latitudeFigure, longitudeFigure}
 use Rattle.places.specs.Digits.{suits, lowestDigit}
@@ -195,5 +195,5 @@ abbrev pub answers : List Result
 answers = map (λ w. w .answered) worked
 
 pub worked-cases : map answer cases ≡ answers
-unfolding answer lent at edition1 edition3 edition4 bytesOf spelled checked checkedIn column legal allows every valueFrom run textOf startOf columns element page tie firstBroken firstFrom octantTie octantFits placeTie signTie digitTie lastDigit windTie dayTie latestDay leaps lastDay readAfter entriesFrom itemOf plain temperature south west placeAt latitudeFigure longitudeFigure recastAfter recastTo inRoom setOf bits passing hasElement keeps lostText senseOf platformSense hemisphere lowestDigit suits recastRecord recordFrom rowFrom recastText widened Written.writtenAs Written.writtenIn Written.writes recordOf numeralFor amountNumeral placeNumeral same partsOf placeOf departure missing said
+unfolding answer lent at edition1 edition3 edition4 bytesOf spelled checked checkedIn column legal allows every valueFrom run textOf startOf columns element page tie firstBroken firstFrom octantTie octantFits placeTie signTie digitTie lastDigit windTie dayTie latestDay leaps lastDay readAfter entriesFrom itemOf plain temperature south west placeAt latitudeFigure longitudeFigure recastAfter recastTo inRoom setOf bits passing hasElement keeps lostText senseOf platformSense hemisphere lowestDigit suits recastRecord recordFrom rowFrom recastText widened Written.writtenAs Written.writtenIn Written.writes recordOf numeralFor amountNumeral placeNumeral same partsOf placeOf departure missing said isText isDeparture isCoordinate isSign isTemperature
 worked-cases = refl

@@ -10,7 +10,7 @@ use lib.Dec.{leb}
 use lib.ListN.{length, getD, take, drop}
 use lib.Seq.{take-all, take-add}
 use Rattle.text.specs.Bytes.{every, between, printable, isDigit, isLetter, blank, digits, number, valueFrom, run}
-use Rattle.text.specs.LegalTexts.{isSign, digitOr, allows}
+use Rattle.text.specs.LegalTexts.{inCallSign, digitOr, allows}
 use Rattle.text.specs.declared.LegalTexts.{LegalTexts}
 use Rattle.text.specs.declared.LegalTexts.the-variants.{Nothing, Printable, Letters, CallSign, DigitOr, Within, Either, OneOf}
 use Rattle.text.proofs.Ranges.{least, greatest, wider}
@@ -46,15 +46,15 @@ blanks-print t e = wider (between 32 32) printable (λ b. range 32 32 b (omega a
 digits-print : (t : List ℕ) → digits t ≡ true → every printable t ≡ true
 digits-print t e = wider isDigit printable (λ b. range 48 57 b (omega arith) (omega arith)) t e
 
-sign-prints : (b : ℕ) → isSign b ≡ true → printable b ≡ true
+sign-prints : (b : ℕ) → inCallSign b ≡ true → printable b ≡ true
 sign-prints b e = either-printable (isDigit b) (isLetter b) b (range 48 57 b (omega arith) (omega arith)) (range 65 90 b (omega arith) (omega arith)) e
 
-signs-print : (t : List ℕ) → blank (drop (run isSign t) t) ≡ true → every printable t ≡ true
+signs-print : (t : List ℕ) → blank (drop (run inCallSign t) t) ≡ true → every printable t ≡ true
 unfolding every run
 signs-print [] e = refl
-signs-print (b ∷ t) e = by (isSign b) refl (signs-print t) e
+signs-print (b ∷ t) e = by (inCallSign b) refl (signs-print t) e
   where
-    by : (x : Bool) → isSign b ≡ x → (blank (drop (run isSign t) t) ≡ true → every printable t ≡ true) → blank (drop (cond x (suc (run isSign t)) 0) (b ∷ t)) ≡ true → every printable (b ∷ t) ≡ true
+    by : (x : Bool) → inCallSign b ≡ x → (blank (drop (run inCallSign t) t) ≡ true → every printable t ≡ true) → blank (drop (cond x (suc (run inCallSign t)) 0) (b ∷ t)) ≡ true → every printable (b ∷ t) ≡ true
     by true f k g = rw (sign-prints b f) (k g)
     by false f k g = blanks-print (b ∷ t) g
 
@@ -89,7 +89,7 @@ unfolding allows
 allowed-prints Nothing p t e = absurd (true≢false (sym e))
 allowed-prints Printable p t e = e
 allowed-prints Letters p t e = wider isLetter printable (λ b. range 65 90 b (omega arith) (omega arith)) t e
-allowed-prints CallSign p t e = signs-print t (and-second (leb 3 (run isSign t)) _ e)
+allowed-prints CallSign p t e = signs-print t (and-second (leb 3 (run inCallSign t)) _ e)
 allowed-prints (DigitOr x) p t e =
     let low = least 32 126 x p in
     let high = greatest 32 126 x p in

@@ -9,7 +9,7 @@ use borrow.Author.Tests.{eqb-true, ne-eqb, leb-true, leb-false, le-leb, not-true
 use lib.Dec.{eqb, leb}
 use lib.ListN.{length, getD, drop}
 use Rattle.text.specs.Bytes.{every, between, either, blank, digits, number, word, run}
-use Rattle.text.specs.LegalTexts.{allows, isSign, callSign}
+use Rattle.text.specs.LegalTexts.{allows, inCallSign, callSign}
 use Rattle.text.specs.declared.LegalTexts.{LegalTexts}
 use Rattle.text.specs.declared.LegalTexts.the-variants.{Nothing, Printable, Letters, CallSign, DigitOr, Within, Either, OneOf}
 use Rattle.text.proofs.Ways.{and-first, and-second, second-holds, decide}
@@ -114,19 +114,19 @@ module _ (t : List ℕ) (d : digits t ≡ true) where
       second-holds (between 0 b (number t)) _ (rw (le-leb c (number t) (at-least t d c (and-first _ _ r) low), le-leb (number t) e high))))
 
 -- a call sign: blanks only after its last byte, and three bytes at least
-not-sign : (b : ℕ) → eqb b 32 ≡ true → isSign b ≡ false
+not-sign : (b : ℕ) → eqb b 32 ≡ true → inCallSign b ≡ false
 not-sign b e = rw (eqb-true b 32 e)
 
-sign-tail : (bond : ℕ → ℕ) → ((p : ℕ) → 61 ≤ bond p) → (b : ℕ) (t : List ℕ) → ((p : ℕ) → p < suc (length t) → (eqb (getD (b ∷ t) p 0) 32 || isSign (getD (b ∷ t) p 0)) ≡ true) →
-    ((p : ℕ) → p < length t → joined (bond p) (getD (b ∷ t) p 0) (getD t p 0) ≡ true) → blank (drop (run isSign (b ∷ t)) (b ∷ t)) ≡ true
+sign-tail : (bond : ℕ → ℕ) → ((p : ℕ) → 61 ≤ bond p) → (b : ℕ) (t : List ℕ) → ((p : ℕ) → p < suc (length t) → (eqb (getD (b ∷ t) p 0) 32 || inCallSign (getD (b ∷ t) p 0)) ≡ true) →
+    ((p : ℕ) → p < length t → joined (bond p) (getD (b ∷ t) p 0) (getD t p 0) ≡ true) → blank (drop (run inCallSign (b ∷ t)) (b ∷ t)) ≡ true
 unfolding run every
-sign-tail bond close b [] f j = decide (eqb b 32) (λ e. rw (not-sign b e) (blanks bond close b [] j e)) (λ e. let h : isSign b ≡ true = rw e at (f 0 (suc-le-suc zero-le)) in rw h)
+sign-tail bond close b [] f j = decide (eqb b 32) (λ e. rw (not-sign b e) (blanks bond close b [] j e)) (λ e. let h : inCallSign b ≡ true = rw e at (f 0 (suc-le-suc zero-le)) in rw h)
 sign-tail bond close b (n ∷ t) f j =
     decide (eqb b 32) (λ e. rw (not-sign b e) (blanks bond close b (n ∷ t) j e))
-    (λ e. let h : isSign b ≡ true = rw e at (f 0 (suc-le-suc zero-le)) in
+    (λ e. let h : inCallSign b ≡ true = rw e at (f 0 (suc-le-suc zero-le)) in
     rw h (sign-tail (λ p. bond (suc p)) (λ p. close (suc p)) n t (λ p l. f (suc p) (suc-le-suc l)) (λ p l. j (suc p) (suc-le-suc l))))
 
-signs : (bond : ℕ → ℕ) → ((p : ℕ) → 61 ≤ bond p) → bond 0 ≡ 61 → bond 1 ≡ 61 → (t : List ℕ) → 3 ≤ length t → ((p : ℕ) → p < length t → (eqb (getD t p 0) 32 || isSign (getD t p 0)) ≡ true) →
+signs : (bond : ℕ → ℕ) → ((p : ℕ) → 61 ≤ bond p) → bond 0 ≡ 61 → bond 1 ≡ 61 → (t : List ℕ) → 3 ≤ length t → ((p : ℕ) → p < length t → (eqb (getD t p 0) 32 || inCallSign (getD t p 0)) ≡ true) →
     ((p : ℕ) → suc p < length t → joined (bond p) (getD t p 0) (getD t (suc p) 0) ≡ true) → (blank t || callSign t) ≡ true
 unfolding run
 signs bond close u v [] l f j = absurd (omega arith)
@@ -136,11 +136,11 @@ signs bond close u v (a ∷ b ∷ c ∷ t) l f j =
     decide (eqb a 32) (λ e. rw (blanks bond close a (b ∷ c ∷ t) (λ p h. j p (suc-le-suc h)) e))
     (λ e. let e2 = after-byte a b (rw u at (j 0 (omega arith))) e in
     let e3 = after-byte b c (rw v at (j 1 (omega arith))) e2 in
-    let h1 : isSign a ≡ true = rw e at (f 0 (omega arith)) in
-    let h2 : isSign b ≡ true = rw e2 at (f 1 (omega arith)) in
-    let h3 : isSign c ≡ true = rw e3 at (f 2 (omega arith)) in
-    let tail : blank (drop (run isSign (a ∷ b ∷ c ∷ t)) (a ∷ b ∷ c ∷ t)) ≡ true = sign-tail bond close a (b ∷ c ∷ t) f (λ p h. j p (suc-le-suc h)) in
-    let three : leb 3 (run isSign (a ∷ b ∷ c ∷ t)) ≡ true = rw (h1, h2, h3) (le-leb 3 (suc (suc (suc (run isSign t)))) (omega arith)) in
+    let h1 : inCallSign a ≡ true = rw e at (f 0 (omega arith)) in
+    let h2 : inCallSign b ≡ true = rw e2 at (f 1 (omega arith)) in
+    let h3 : inCallSign c ≡ true = rw e3 at (f 2 (omega arith)) in
+    let tail : blank (drop (run inCallSign (a ∷ b ∷ c ∷ t)) (a ∷ b ∷ c ∷ t)) ≡ true = sign-tail bond close a (b ∷ c ∷ t) f (λ p h. j p (suc-le-suc h)) in
+    let three : leb 3 (run inCallSign (a ∷ b ∷ c ∷ t)) ≡ true = rw (h1, h2, h3) (le-leb 3 (suc (suc (suc (run inCallSign t)))) (omega arith)) in
     second-holds (blank (a ∷ b ∷ c ∷ t)) _ (rw (three, tail)))
 
 call-bond : (p : ℕ) → 61 ≤ cond (leb p 1) 61 62

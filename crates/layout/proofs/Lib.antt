@@ -3,6 +3,7 @@ pub mod Columns
 pub mod Rows
 pub mod LegalTexts
 pub mod Elements
+pub mod PartLaws
 pub mod Beyond
 pub mod Demand2Columns
 pub mod Parts

@@ -12,22 +12,38 @@ use Rattle.text.specs.declared.LegalTexts.the-variants.{Nothing, Printable, Let
 use Rattle.layout.specs.declared.Edition.{Edition}
 use Rattle.layout.specs.declared.Edition.the-variants.{One, Three, Four}
 
--- an element's width, and its texts in each edition
+-- an element's part in a reading. Most read by themselves: a code, or always a text, or a departure, whose sign stands in the hundreds. Others share one: the digit of
+-- the hemispheres and the two coordinates after it are a place, a sign and the temperature after it an amount. Column 111 is the version
+pub data Part : Type 0 where
+  code : Part
+  text : Part
+  departure : Part
+  hemispheres : Part
+  coordinate : Part
+  sign : Part
+  temperature : Part
+  version : Part
+
+-- an element's width, its texts in each edition, and its part
 pub record Element : Type 0 where
   pub width : ℕ
   pub in1 : LegalTexts
   pub in3 : LegalTexts
   pub in4 : LegalTexts
+  pub part : Part
 
--- an element whose texts go by the edition, are the same in all, or that edition 1 does not have
+-- an element whose texts go by the edition, are the same in all, or that edition 1 does not have; and one whose part is not a code's
 abbrev pub differing : ℕ → LegalTexts → LegalTexts → LegalTexts → Element
-differing w s t u = record { width = w; in1 = s; in3 = t; in4 = u }
+differing w s t u = record { width = w; in1 = s; in3 = t; in4 = u; part = code }
 
 abbrev pub alike : ℕ → LegalTexts → Element
 alike w s = differing w s s s
 
 abbrev pub later : ℕ → LegalTexts → LegalTexts → Element
 later w t u = differing w Nothing t u
+
+abbrev pub playing : Part → Element → Element
+playing p e = record { width = e .width; in1 = e .in1; in3 = e .in3; in4 = e .in4; part = p }
 
 -- a quality control flag: 0..5, 9; edition 4 also 6, 7
 abbrev pub flag : Element
@@ -44,9 +60,9 @@ page =
     alike 2 (Within 1 12) ∷  -- 3 MM month
     alike 2 (Within 1 31) ∷  -- 4 YY day
     alike 2 (Within 0 23) ∷  -- 5 GG hour
-    differing 1 (Either 0 3 5 8) (OneOf 1 3 5 7) (OneOf 1 3 5 7) ∷  -- 6 Q octant (table 3300); Qc quadrant (3333)
-    alike 3 (Within 0 900) ∷  -- 7 latitude
-    alike 4 (Within 0 1800) ∷  -- 8 longitude
+    playing hemispheres (differing 1 (Either 0 3 5 8) (OneOf 1 3 5 7) (OneOf 1 3 5 7)) ∷  -- 6 Q octant (table 3300); Qc quadrant (3333)
+    playing coordinate (alike 3 (Within 0 900)) ∷  -- 7 latitude
+    playing coordinate (alike 4 (Within 0 1800)) ∷  -- 8 longitude
     alike 1 (Within 0 3) ∷  -- 9 how h and VV were measured
     alike 1 (DigitOr 47) ∷  -- 10 h
     alike 2 (Either 0 50 56 99) ∷  -- 11 VV (4377)
@@ -54,10 +70,10 @@ page =
     alike 2 (Either 0 36 99 99) ∷  -- 13 dd
     alike 1 (OneOf 0 1 3 4) ∷  -- 14 iw (1855)
     alike 2 (Within 0 99) ∷  -- 15 ff
-    alike 1 (Within 0 1) ∷  -- 16 sn sign of air temperature
-    alike 3 (Within 0 999) ∷  -- 17 TTT air temperature
-    alike 1 (Either 0 2 5 7) ∷  -- 18 sign of dew point
-    alike 3 (Within 0 999) ∷  -- 19 dew point
+    playing sign (alike 1 (Within 0 1)) ∷  -- 16 sn sign of air temperature
+    playing temperature (alike 3 (Within 0 999)) ∷  -- 17 TTT air temperature
+    playing sign (alike 1 (Either 0 2 5 7)) ∷  -- 18 sign of dew point
+    playing temperature (alike 3 (Within 0 999)) ∷  -- 19 dew point
     alike 4 (Either 0 999 8000 9999) ∷  -- 20 PPPP
     alike 2 (Within 0 99) ∷  -- 21 ww
     alike 1 (Within 0 9) ∷  -- 22 W1
@@ -66,8 +82,8 @@ page =
     alike 1 (DigitOr 47) ∷  -- 25 CL
     alike 1 (DigitOr 47) ∷  -- 26 CM
     alike 1 (DigitOr 47) ∷  -- 27 CH
-    alike 1 (Within 0 1) ∷  -- 28 sn sign of sea-surface temperature
-    alike 3 (Within 0 999) ∷  -- 29 sea-surface temperature
+    playing sign (alike 1 (Within 0 1)) ∷  -- 28 sn sign of sea-surface temperature
+    playing temperature (alike 3 (Within 0 999)) ∷  -- 29 sea-surface temperature
     alike 1 (Within 0 7) ∷  -- 30 how it was measured
     alike 1 (Within 0 9) ∷  -- 31 how the waves were measured
     alike 2 (Within 0 99) ∷  -- 32 period of wind waves
@@ -80,16 +96,16 @@ page =
     alike 1 (Within 0 4) ∷  -- 39 Rs
     alike 1 (Within 0 6) ∷  -- 40 source of observation
     differing 1 (Within 0 9) (Within 0 9) (Either 0 6 9 9) ∷  -- 41 observation platform
-    alike 7 CallSign ∷  -- 42 call sign
-    differing 2 (Within 0 99) Letters Letters ∷  -- 43 country which has recruited the ship
-    alike 1 Printable ∷  -- 44 national use
+    playing text (alike 7 CallSign) ∷  -- 42 call sign
+    playing text (differing 2 (Within 0 99) Letters Letters) ∷  -- 43 country which has recruited the ship
+    playing text (alike 1 Printable) ∷  -- 44 national use
     alike 1 (Either 0 6 9 9) ∷  -- 45 quality control indicator
     alike 1 (OneOf 1 4 7 7) ∷  -- 46 ix
     alike 1 (Within 0 4) ∷  -- 47 iR
     alike 3 (Within 1 999) ∷  -- 48 RRR
     alike 1 (Within 0 9) ∷  -- 49 tR
-    alike 1 (Either 0 2 5 7) ∷  -- 50 sign of wet bulb
-    alike 3 (Within 0 999) ∷  -- 51 wet bulb
+    playing sign (alike 1 (Either 0 2 5 7)) ∷  -- 50 sign of wet bulb
+    playing temperature (alike 3 (Within 0 999)) ∷  -- 51 wet bulb
     alike 1 (Within 0 8) ∷  -- 52 a
     alike 3 (Within 0 999) ∷  -- 53 ppp
     alike 1 (DigitOr 47) ∷  -- 54 Ds
@@ -103,7 +119,7 @@ page =
     alike 1 (DigitOr 47) ∷  -- 62 Di
     alike 1 (DigitOr 47) ∷  -- 63 zi
     differing 1 (Within 0 8) (Within 0 8) (DigitOr 65) ∷  -- 64 FM code version
-    differing 1 (Within 1 1) (Within 3 3) (Within 4 4) ∷  -- 65 IMMT version, column 111
+    playing version (differing 1 (Within 1 1) (Within 3 3) (Within 4 4)) ∷  -- 65 IMMT version, column 111
     flag ∷  -- 66 Q1, of h
     flag ∷  -- 67 Q2, of VV
     flag ∷  -- 68 Q3, of clouds
@@ -129,7 +145,7 @@ page =
     later 3 (Within 0 360) (Within 0 360) ∷  -- 88 COG
     later 2 (Within 0 99) (Within 0 99) ∷  -- 89 SOG
     later 2 (Within 0 99) (Within 0 99) ∷  -- 90 SLL
-    later 3 (Either 0 99 101 199) (Either 0 99 101 199) ∷  -- 91 sign and hh
+    playing departure (later 3 (Either 0 99 101 199) (Either 0 99 101 199)) ∷  -- 91 sign and hh
     later 3 (Within 0 360) (Within 0 360) ∷  -- 92 RWD
     later 3 (Within 0 999) (Within 0 999) ∷  -- 93 RWS
     laterFlag ∷  -- 94 Q22, of HDG
@@ -155,6 +171,35 @@ element e = getD elements e none
 
 abbrev pub widthOf : ℕ → ℕ
 widthOf e = (element e) .width
+
+-- each part has a number of its own; element e has that part
+abbrev pub partNumber : Part → ℕ
+partNumber code = 0
+partNumber text = 1
+partNumber departure = 2
+partNumber hemispheres = 3
+partNumber coordinate = 4
+partNumber sign = 5
+partNumber temperature = 6
+partNumber version = 7
+
+abbrev pub plays : Part → ℕ → Bool
+plays p e = eqb (partNumber (element e .part)) (partNumber p)
+
+unfoldable pub isText : ℕ → Bool
+isText e = plays text e
+
+unfoldable pub isDeparture : ℕ → Bool
+isDeparture e = plays departure e
+
+unfoldable pub isCoordinate : ℕ → Bool
+isCoordinate e = plays coordinate e
+
+unfoldable pub isSign : ℕ → Bool
+isSign e = plays sign e
+
+unfoldable pub isTemperature : ℕ → Bool
+isTemperature e = plays temperature e
 
 -- how many columns some elements have
 unfoldable pub columns : List Element → ℕ

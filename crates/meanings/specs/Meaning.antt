@@ -4,10 +4,9 @@ use mathlib.Core.Bool.{Bool, cond, _||_}
 use mathlib.Core.List.{List}
 use lib.Dec.{eqb}
 use Rattle.text.specs.Bytes.{number}
-use Rattle.text.specs.LegalTexts.{among}
 use Rattle.layout.specs.declared.Edition.{Edition}
 use Rattle.layout.specs.declared.Edition.the-variants.{One, Three, Four}
-use Rattle.layout.specs.Page.{textOf}
+use Rattle.layout.specs.Page.{textOf, isCoordinate, isSign, isTemperature}
 use Rattle.reading.specs.declared.Reading.{Reading}
 use Rattle.reading.specs.declared.Reading.the-variants.{Missing, Code, Text, Amount, At}
 use Rattle.reading.specs.Readings.{lead, readingOf}
@@ -91,7 +90,7 @@ withoutDigit (At p) = At (record { latitude = p .latitude; longitude = p .longit
 
 -- elements 6 to 8 share the place, a sign and its temperature share the amount
 abbrev pub shares : ℕ → Bool
-shares e = among 6 16 18 28 (lead e) || eqb (lead e) 50
+shares e = (eqb e 6 || isCoordinate e) || (isSign e || isTemperature e)
 
 -- what an element means: where it shares a reading that, else its characters in their sense
 pub data Meaning : Type 0 where

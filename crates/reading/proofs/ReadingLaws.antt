@@ -1,4 +1,5 @@
 -- What each way through the code that reads says of the reading. Assumes nothing.
+use Rattle.layout.proofs.PartLaws.{coordinate-cases, sign-cases, temperature-cases, coordinate-is, sign-is, temperature-is}
 use mathlib.Core.Path.{_≡_, refl, sym, ap, _∙_}
 use mathlib.Core.Logic.{⊎-elim}
 use mathlib.Core.Bool.{Bool, true, false, cond, _||_}
@@ -16,7 +17,7 @@ use Rattle.text.proofs.Among.{among-cases, neither-first, neither-second}
 use Rattle.text.proofs.Ways.{decide}
 use Rattle.layout.specs.declared.Edition.{Edition}
 use Rattle.layout.specs.Editions.{lengthOf, lastOf}
-use Rattle.layout.specs.Page.{textOf}
+use Rattle.layout.specs.Page.{textOf, isText, isDeparture, isCoordinate, isSign, isTemperature, element, page}
 use Rattle.layout.proofs.Beyond.{last-above, text-none}
 use Rattle.reading.specs.declared.Kind.{Kind}
 use Rattle.reading.specs.declared.Kind.the-variants.{Measured}
@@ -25,7 +26,7 @@ use Rattle.reading.specs.declared.Reading.the-variants.{Missing, Code, T
 use Rattle.places.specs.declared.Place.{Place}
 use Rattle.places.specs.Places.{placeAt}
 use Rattle.signs.specs.Signed.{signed}
-use Rattle.reading.specs.Readings.{alwaysText, codeOf, plain, below, kindOf, temperature, departure, placeOf, lead, itemOf, readingOf}
+use Rattle.reading.specs.Readings.{codeOf, plain, below, kindOf, temperature, departure, placeOf, lead, itemOf, readingOf}
 
 -- PPPP below 1000, and any other number
 module _ (e n m : ℕ) (f : m ≡ n) where
@@ -49,7 +50,7 @@ module _ (e : ℕ) (t : List ℕ) (x : Bool) (p : x ≡ blank t) where
     unfolding plain
     plain-other k n f = rw (← p, h, ← q, k, f)
 
-    module _ (k : y ≡ true) (z : Bool) (r : z ≡ alwaysText e) where
+    module _ (k : y ≡ true) (z : Bool) (r : z ≡ isText e) where
       pub plain-text : z ≡ true → (n : ℕ) → n ≡ word t → Text n ≡ plain e t
       unfolding plain
       plain-text l n f = rw (← p, h, ← q, k, ← r, l, f)
@@ -120,35 +121,34 @@ module _ (ed : Edition) (xs : List ℕ) (e : ℕ) where
   item-place h = rw (eq-eqb e 6 h)
 
   module _ (p : e ≡ 6 → ⊥) where
-    pub item-temperature : among 16 18 28 50 e ≡ true → itemOf ed xs e ≡ temperature (textOf e xs) (textOf (e + 1) xs)
+    pub item-temperature : isSign e ≡ true → itemOf ed xs e ≡ temperature (textOf e xs) (textOf (e + 1) xs)
     unfolding itemOf
     item-temperature h = rw (ne-eqb e 6 p, h)
 
-  pub item-alone : (eqb e 6 || among 16 18 28 50 e) ≡ false → itemOf ed xs e ≡ cond (eqb e 91) (departure (textOf e xs)) (plain e (textOf e xs))
+  pub item-alone : (eqb e 6 || isSign e) ≡ false → itemOf ed xs e ≡ cond (isDeparture e) (departure (textOf e xs)) (plain e (textOf e xs))
   unfolding itemOf
-  item-alone h =
-      rw (neither-first (eqb e 6) _ h, neither-second (eqb e 6) _ h)
-      (decide (eqb e 91) (λ t. rw (t, eqb-true e 91 t)) (λ t. rw t))
+  item-alone h = rw (neither-first (eqb e 6) _ h, neither-second (eqb e 6) _ h)
 
   -- an element that the edition lacks has no text, and so no reading
   pub lacking : length xs ≡ lengthOf ed → lastOf ed < e → readingOf ed xs e ≡ Missing
   unfolding departure plain every
   lacking f h =
       let past = last-above ed in
-      let alone : (eqb e 6 || among 16 18 28 50 e) ≡ false = rw (ne-eqb e 6 (λ z. omega arith), among-past 85 16 18 28 50 e (lit≤ tt) (lit≤ tt) (lit≤ tt) (lit≤ tt) (omega arith)) in
-      rw (among-past 85 7 8 7 8 e (lit≤ tt) (lit≤ tt) (lit≤ tt) (lit≤ tt) (omega arith), among-past 85 17 19 29 51 e (lit≤ tt) (lit≤ tt) (lit≤ tt) (lit≤ tt) (omega arith), item-alone alone, text-none ed xs f e h)
-      (decide (eqb e 91) (λ t. rw t) (λ t. rw t))
+      let alone : (eqb e 6 || isSign e) ≡ false = rw (ne-eqb e 6 (λ z. omega arith), sign-is e) (among-past 85 16 18 28 50 e (lit≤ tt) (lit≤ tt) (lit≤ tt) (lit≤ tt) (omega arith)) in
+      let coordinate = coordinate-is e ∙ among-past 85 7 8 7 8 e (lit≤ tt) (lit≤ tt) (lit≤ tt) (lit≤ tt) (omega arith) in
+      let temperature = temperature-is e ∙ among-past 85 17 19 29 51 e (lit≤ tt) (lit≤ tt) (lit≤ tt) (lit≤ tt) (omega arith) in
+      rw (coordinate, temperature, item-alone alone, text-none ed xs f e h) (decide (isDeparture e) (λ t. rw t) (λ t. rw t))
 
 -- an element that others share the reading of: it is no later than the last sign, and where it is not column 12 it is a sign
-module _ (e : ℕ) (h : (eqb e 6 || among 16 18 28 50 e) ≡ true) where
-  pub leads-sign : (e ≡ 6 → ⊥) → among 16 18 28 50 e ≡ true
-  leads-sign n = ap (λ (t : Bool). t || among 16 18 28 50 e) (sym (ne-eqb e 6 n)) ∙ h
+module _ (e : ℕ) (h : (eqb e 6 || isSign e) ≡ true) where
+  pub leads-sign : (e ≡ 6 → ⊥) → isSign e ≡ true
+  leads-sign n = ap (λ (t : Bool). t || isSign e) (sym (ne-eqb e 6 n)) ∙ h
 
   pub leads-low : e ≤ 50
   leads-low =
       decide (eqb e 6)
       (λ t. let z = eqb-true e 6 t in omega arith)
-      (λ t. among-below 50 16 18 28 50 e (lit≤ tt) (lit≤ tt) (lit≤ tt) (lit≤ tt) (leads-sign (eqb-false e 6 t)))
+      (λ t. sign-cases (λ n. n ≤ 50) e (lit≤ tt) (lit≤ tt) (lit≤ tt) (lit≤ tt) (leads-sign (eqb-false e 6 t)))
 
 -- a reading of texts, each of which is known
 module _ {r : Reading} where
@@ -161,14 +161,18 @@ module _ {r : Reading} where
   pub from-three : (f : List ℕ → List ℕ → List ℕ → Reading) {a a′ b b′ c c′ : List ℕ} → r ≡ f a b c → a ≡ a′ → b ≡ b′ → c ≡ c′ → r ≡ f a′ b′ c′
   from-three f {a} {a′} {b} {b′} {c} {c′} e p q s = from-two (λ x y. f x y c′) (e ∙ ap (f a b) s) p q
 
+-- the elements that share a reading with a lower one, by number
+pub lead-numbers : (e : ℕ) → lead e ≡ cond (among 7 8 7 8 e) 6 (cond (among 17 19 29 51 e) (e - 1) e)
+lead-numbers e = rw (coordinate-is e, temperature-is e)
+
 -- the lowest element that shares a reading with e is one of the elements, and no higher than e
 pub record Lead (e l : ℕ) : Type 0 where
   pub low : 1 ≤ l
   pub high : l ≤ e
 
-lead-by : (e : ℕ) (x y : Bool) → among 7 8 7 8 e ≡ x → among 17 19 29 51 e ≡ y → 1 ≤ e → Lead e (cond x 6 (cond y (e - 1) e))
-lead-by e true y p q h = record { low = lit≤ tt; high = omega (arith, among-above 7 7 8 7 8 e (lit≤ tt) (lit≤ tt) (lit≤ tt) (lit≤ tt) p) }
-lead-by e false true p q h = let k = among-above 17 17 19 29 51 e (lit≤ tt) (lit≤ tt) (lit≤ tt) (lit≤ tt) q in record { low = omega arith; high = omega arith }
+lead-by : (e : ℕ) (x y : Bool) → isCoordinate e ≡ x → isTemperature e ≡ y → 1 ≤ e → Lead e (cond x 6 (cond y (e - 1) e))
+lead-by e true y p q h = record { low = lit≤ tt; high = omega (arith, coordinate-cases (λ n. 7 ≤ n) e (lit≤ tt) (lit≤ tt) p) }
+lead-by e false true p q h = let k = temperature-cases (λ n. 17 ≤ n) e (lit≤ tt) (lit≤ tt) (lit≤ tt) (lit≤ tt) q in record { low = omega arith; high = omega arith }
 lead-by e false false p q h = record { low = h; high = le-refl e }
 
 pub lead-is : (e : ℕ) → 1 ≤ e → Lead e (lead e)
@@ -176,11 +180,12 @@ lead-is e h = lead-by e _ _ refl refl h
 
 -- elements share the reading of one that shares its own with none lower
 pub lead-of-lead : (e : ℕ) → lead (lead e) ≡ lead e
-lead-of-lead e = by (among 7 8 7 8 e) (among 17 19 29 51 e) refl refl
+unfolding isCoordinate isTemperature element page
+lead-of-lead e = by (isCoordinate e) (isTemperature e) refl refl
   where
-    by : (x y : Bool) → among 7 8 7 8 e ≡ x → among 17 19 29 51 e ≡ y → lead (lead e) ≡ lead e
-    by true y p q = among-cases (λ k. lead (lead k) ≡ lead k) 7 8 7 8 e refl refl refl refl p
-    by false true p q = among-cases (λ k. lead (lead k) ≡ lead k) 17 19 29 51 e refl refl refl refl q
+    by : (x y : Bool) → isCoordinate e ≡ x → isTemperature e ≡ y → lead (lead e) ≡ lead e
+    by true y p q = coordinate-cases (λ k. lead (lead k) ≡ lead k) e refl refl p
+    by false true p q = temperature-cases (λ k. lead (lead k) ≡ lead k) e refl refl refl refl q
     by false false p q = rw (p, q, p, q)
 
 pub shared : (ed : Edition) (xs : List ℕ) (e l : ℕ) → l ≡ lead e → readingOf ed xs l ≡ readingOf ed xs e

@@ -6,7 +6,7 @@ use lib.Dec.{eqb, leb}
 use Rattle.text.specs.Bytes.{blank, digits, number, word}
 use Rattle.text.specs.LegalTexts.{among}
 use Rattle.layout.specs.declared.Edition.{Edition}
-use Rattle.layout.specs.Page.{textOf}
+use Rattle.layout.specs.Page.{textOf, isText, isDeparture, isCoordinate, isSign, isTemperature}
 use Rattle.places.specs.Places.{placeAt}
 use Rattle.signs.specs.Signed.{signed}
 use Rattle.reading.specs.declared.Kind.{Kind}
@@ -14,17 +14,13 @@ use Rattle.reading.specs.declared.Kind.the-variants.{Measured, Computed,
 use Rattle.reading.specs.declared.Reading.{Reading}
 use Rattle.reading.specs.declared.Reading.the-variants.{Missing, Code, Text, Amount, At}
 
--- call sign, country and column 81 always read as a text
-abbrev pub alwaysText : ℕ → Bool
-alwaysText e = eqb e 42 || eqb e 43 || eqb e 44
-
 -- the leading 1 of PPPP is omitted below 1000
 abbrev pub codeOf : ℕ → ℕ → ℕ
 codeOf e n = cond (eqb e 20 && leb n 999) (n + 10000) n
 
--- an element by itself: digits read as a code, anything else as a text, the bytes of the columns as one number
+-- an element by itself: digits read as a code, unless it is always a text, and anything else as a text, the bytes of the columns as one number
 unfoldable pub plain : ℕ → List ℕ → Reading
-plain e t = cond (blank t) Missing (cond (digits t && not (alwaysText e)) (Code (codeOf e (number t))) (Text (word t)))
+plain e t = cond (blank t) Missing (cond (digits t && not (isText e)) (Code (codeOf e (number t))) (Text (word t)))
 
 -- a sign and its temperature: signs 1, 6 give a negative amount, iced (2, 7) zero or below
 abbrev pub below : ℕ → Bool
@@ -46,16 +42,16 @@ placeOf ed digit latitude longitude =
     cond (blank digit || blank latitude || blank longitude) Missing
     (At (placeAt ed (number digit) (number latitude) (number longitude)))
 
--- the lowest element of those that share a reading: 6 to 8 the place, a sign and its temperature the amount
+-- the lowest element of those that share a reading: column 12 and the coordinates the place, a sign and the temperature after it the amount
 abbrev pub lead : ℕ → ℕ
-lead e = cond (among 7 8 7 8 e) 6 (cond (among 17 19 29 51 e) (e - 1) e)
+lead e = cond (isCoordinate e) 6 (cond (isTemperature e) (e - 1) e)
 
 -- what the element reads as that shares its reading with no lower one
 unfoldable pub itemOf : Edition → List ℕ → ℕ → Reading
 itemOf ed xs e =
     cond (eqb e 6) (placeOf ed (textOf 6 xs) (textOf 7 xs) (textOf 8 xs))
-    (cond (among 16 18 28 50 e) (temperature (textOf e xs) (textOf (e + 1) xs))
-    (cond (eqb e 91) (departure (textOf 91 xs))
+    (cond (isSign e) (temperature (textOf e xs) (textOf (e + 1) xs))
+    (cond (isDeparture e) (departure (textOf e xs))
     (plain e (textOf e xs))))
 
 abbrev pub readingOf : Edition → List ℕ → ℕ → Reading

@@ -18,8 +18,8 @@ ghost use lib.ListN.{length};
 ghost use Rattle.text.specs.LegalTexts.{among};
 ghost use Rattle.layout.specs.declared.Edition.{Edition};
 ghost use Rattle.layout.specs.Editions.{lengthOf};
-ghost use Rattle.layout.specs.Page.{startOf, widthOf};
-ghost use Rattle.reading.specs.Readings.{alwaysText, codeOf, plain, below, kindOf, temperature, departure, placeOf, lead, itemOf};
+ghost use Rattle.layout.specs.Page.{startOf, widthOf, isText, isDeparture, isSign};
+ghost use Rattle.reading.specs.Readings.{codeOf, plain, below, kindOf, temperature, departure, placeOf, lead, itemOf};
 ghost use Rattle.reading.specs.Answers.{readAfter, readOf};
 
 // How an amount came about.
@@ -52,7 +52,7 @@ pub struct Readings {
 
 // Does the element always read as a text?
 fn is_always_text(e: usize) -> bool
-    ensures { λ r. ⌜ r ≡ alwaysText e ⌝ }
+    ensures { λ r. ⌜ r ≡ isText e ⌝ }
 {
     match e {
         42 => true,
@@ -199,7 +199,7 @@ pub fn lead_of(e: usize) -> usize
 
 // Is it the sign of a temperature?
 pub fn is_sign(e: usize) -> bool
-    ensures { λ r. ⌜ r ≡ among 16 18 28 50 e ⌝ }
+    ensures { λ r. ⌜ r ≡ isSign e ⌝ }
 {
     match e {
         16 => true,
@@ -212,7 +212,7 @@ pub fn is_sign(e: usize) -> bool
 
 // Do others share the reading that begins with the element?
 fn is_leading(e: usize) -> bool
-    ensures { λ r. ⌜ r ≡ (eqb e 6 || among 16 18 28 50 e) ⌝ }
+    ensures { λ r. ⌜ r ≡ (eqb e 6 || isSign e) ⌝ }
 {
     e == 6 || is_sign(e)
 }
@@ -220,7 +220,7 @@ fn is_leading(e: usize) -> bool
 // What the elements read as that share a reading, of which e is the first and starts at that column: a
 // place, or a sign and its temperature.
 fn item_at(edition: Edition, line: &[u8], e: usize, at: usize) -> Reading
-    requires { ⌜ ((eqb e 6 || among 16 18 28 50 e) ≡ true) × (at ≡ startOf e) ⌝ }
+    requires { ⌜ ((eqb e 6 || isSign e) ≡ true) × (at ≡ startOf e) ⌝ }
     ensures { λ r. ⌜ r ≡ itemOf edition (now (line .entry)) e ⌝ }
 {
     let first = page::columns(line, at, width_of(e));
@@ -237,7 +237,7 @@ fn item_at(edition: Edition, line: &[u8], e: usize, at: usize) -> Reading
 // The reading of an element that shares it with no other.
 fn alone_of(e: usize, text: &[u8]) -> Reading
     requires { ⌜ length (now text) ≤ 7 ⌝ }
-    ensures { λ r. ⌜ r ≡ cond (eqb e 91) (departure (now (text .entry))) (plain e (now (text .entry))) ⌝ }
+    ensures { λ r. ⌜ r ≡ cond (isDeparture e) (departure (now (text .entry))) (plain e (now (text .entry))) ⌝ }
 {
     if e == 91 {
         return departure_of(text);
@@ -254,7 +254,7 @@ const SINGLE_64: u64 = 0x003f_c07f_ffff;
 // Is it one of them?
 fn is_single(e: usize) -> bool
     requires { ⌜ e ≤ 101 ⌝ }
-    ensures { λ r. ⌜ r ≡ (eqb (widthOf e) 1 && not (eqb e 6 || among 16 18 28 50 e) && not (alwaysText e)) ⌝ }
+    ensures { λ r. ⌜ r ≡ (eqb (widthOf e) 1 && not (eqb e 6 || isSign e) && not (isText e)) ⌝ }
 {
     if e < 64 {
         return (SINGLE_0 >> e) % 2 == 1;

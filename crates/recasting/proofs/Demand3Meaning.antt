@@ -1,4 +1,5 @@
 -- Demand 3: each element but column 111 keeps its meaning or is blank, and is blank exactly when the target has no legal text with that meaning. Assumes nothing.
+use Rattle.layout.proofs.PartLaws.{coordinate-cases, sign-cases, temperature-cases}
 use mathlib.Core.Path.{_≡_, refl, sym, ap, _∙_}
 use mathlib.Core.Logic.{_⊎_, inl, inr, _↔_, ⊎-elim}
 use mathlib.Core.Bool.{Bool, true, false, cond, not, _&&_, _||_, true≢false}
@@ -7,12 +8,12 @@ use Prim.Native.Nat.{ℕ, _≤_}
 use borrow.Author.Tests.{eqb-true, eq-eqb, leb-true, leb-false}
 use lib.Dec.{eqb, leb}
 use Rattle.text.specs.Bytes.{every, blank, number}
-use Rattle.text.specs.LegalTexts.{among, allows}
+use Rattle.text.specs.LegalTexts.{allows}
 use Rattle.text.proofs.Ways.{and-first}
-use Rattle.text.proofs.Among.{either-half, among-cases, at-number}
+use Rattle.text.proofs.Among.{either-half, at-number, neither-first}
 use Rattle.layout.specs.declared.Edition.{Edition}
 use Rattle.layout.specs.Editions.{lastOf}
-use Rattle.layout.specs.Page.{textOf, legalTexts, mayBeBlank, legal}
+use Rattle.layout.specs.Page.{textOf, legalTexts, mayBeBlank, legal, isCoordinate, isSign, isTemperature, element, page}
 use Rattle.layout.proofs.Beyond.{text-none}
 use Rattle.places.specs.declared.Place.{Place}
 use Rattle.places.specs.Digits.{crosses}
@@ -48,7 +49,7 @@ alike-digits from to q la lo h = ap (λ (p : Place). cond (blank q || blank la |
 -- the digit that is taken gives the place that the other gave
 moved : (from to : Edition) (xs : List ℕ) (f : HasDigit from to xs) →
     withoutDigit (placeOf to (standing (f .digit)) (textOf 7 xs) (textOf 8 xs)) ≡ withoutDigit (placeOf from (textOf 6 xs) (textOf 7 xs) (textOf 8 xs))
-unfolding itemOf
+unfolding itemOf isCoordinate isTemperature element page
 moved from to xs f = ap withoutDigit (f .gives) ∙ sym (ap withoutDigit (f .held))
 
 -- the characters and the sense of what is said
@@ -110,26 +111,30 @@ module _ (from to : Edition) (xs : List ℕ) (a : Acceptable from xs) where
       withoutDigit (temperature (textOf e (result from to xs a)) (textOf f (result from to xs a))) ≡ withoutDigit (temperature (textOf e xs) (textOf f xs))
   pair-kept e f p q = rw (p, q)
 
-  item-kept : (l : ℕ) → (among 6 16 18 28 l || eqb l 50) ≡ true → Kept l
-  unfolding itemOf
-  item-kept l h =
+  item-kept : (e : ℕ) → shares e ≡ true → Kept (lead e)
+  unfolding itemOf isCoordinate isSign isTemperature element page
+  item-kept e h =
       ⊎-elim
-      (among-cases Kept 6 16 18 28 l
-      place-kept
-      (pair-kept 16 17 (same from to xs a 16 refl) (same from to xs a 17 refl))
-      (pair-kept 18 19 (same from to xs a 18 refl) (same from to xs a 19 refl))
-      (pair-kept 28 29 (same from to xs a 28 refl) (same from to xs a 29 refl)))
-      (λ m. at-number Kept l 50 m (pair-kept 50 51 (same from to xs a 50 refl) (same from to xs a 51 refl)))
-      (either-half _ _ h)
+      (λ p. ⊎-elim (λ m. at-number (λ k. Kept (lead k)) e 6 m place-kept) (coordinate-cases (λ k. Kept (lead k)) e place-kept place-kept) (either-half (eqb e 6) _ p))
+      (λ p. ⊎-elim (sign-cases (λ k. Kept (lead k)) e air dew sea wet) (temperature-cases (λ k. Kept (lead k)) e air dew sea wet) (either-half (isSign e) _ p))
+      (either-half (eqb e 6 || isCoordinate e) _ h)
+    where
+      air : Kept 16
+      air = pair-kept 16 17 (same from to xs a 16 refl) (same from to xs a 17 refl)
+
+      dew : Kept 18
+      dew = pair-kept 18 19 (same from to xs a 18 refl) (same from to xs a 19 refl)
+
+      sea : Kept 28
+      sea = pair-kept 28 29 (same from to xs a 28 refl) (same from to xs a 29 refl)
+
+      wet : Kept 50
+      wet = pair-kept 50 51 (same from to xs a 50 refl) (same from to xs a 51 refl)
 
   -- an element that is filled and not lost means what it meant
   module _ (e : ℕ) (h : 1 ≤ e) (l : e ≤ 101) (other : eqb e 65 ≡ false) where
     alone : shares e ≡ false → eqb e 6 ≡ false
-    alone s = by (eqb e 6) refl
-      where
-        by : (x : Bool) → eqb e 6 ≡ x → x ≡ false
-        by true k = absurd (true≢false (ap shares (sym (eqb-true e 6 k)) ∙ s))
-        by false k = refl
+    alone s = neither-first _ _ (neither-first _ _ s)
 
     -- a text that is filled and not lost is legal in the target, in the same sense
     kept-there : eqb e 6 ≡ false → blank (textOf e xs) ≡ false → lostAt from to xs e ≡ false →
@@ -167,7 +172,7 @@ module _ (from to : Edition) (xs : List ℕ) (a : Acceptable from xs) where
     meaning-kept b k = by (shares e) refl
       where
         by : (x : Bool) → shares e ≡ x → meaningOf to (result from to xs a) e ≡ meaningOf from xs e
-        by true s = rw s (ap reads (item-kept (lead e) s))
+        by true s = rw s (ap reads (item-kept e s))
         by false s =
             let p = alone s in
             rw (s, text-kept p b k) (ap (says (textOf e xs)) (sym (same-sense _ _ (kept-there p b k .1))))

@@ -1,4 +1,5 @@
 -- Elements that are never lost: all editions have the same texts for them and take them in one sense, or they have a rule of their own. Assumes nothing.
+use Rattle.layout.proofs.PartLaws.{coordinate-cases, temperature-cases, sign-cases}
 use mathlib.Core.Path.{_≡_, refl}
 use mathlib.Core.Bool.{Bool, true, false, not, _&&_, _||_}
 use mathlib.Core.Logic.{⊎-elim}
@@ -8,12 +9,11 @@ use native.Mathlib.Omega.{arith}
 use borrow.Author.Tests.{ne-eqb, not-true}
 use lib.Dec.{eqb}
 use Rattle.text.specs.Bytes.{between}
-use Rattle.text.specs.LegalTexts.{among}
-use Rattle.text.proofs.Among.{either-half, among-cases, at-number}
+use Rattle.text.proofs.Among.{either-half, at-number}
 use Rattle.text.proofs.Ranges.{least, greatest}
 use Rattle.text.proofs.Ways.{and-first, and-second}
 use Rattle.layout.specs.declared.Edition.{Edition}
-use Rattle.layout.specs.Page.{textOf, legal}
+use Rattle.layout.specs.Page.{textOf, legal, isCoordinate, isSign}
 use Rattle.layout.proofs.Beyond.{last-above}
 use Rattle.checking.specs.Acceptable.{Acceptable}
 use Rattle.meanings.specs.Meaning.{shares}
@@ -57,13 +57,14 @@ module _ (from to : Edition) (xs : List ℕ) (a : Acceptable from xs) where
 
   -- what shares a reading is never lost
   pub shared : (e : ℕ) → shares e ≡ true → Never e
-  shared e = by (among 7 8 7 8 e) (among 17 19 29 51 e) refl refl
-    where
-      by : (x y : Bool) → among 7 8 7 8 e ≡ x → among 17 19 29 51 e ≡ y → shares e ≡ true → Never e
-      by true y p q = λ h. among-cases Never 7 8 7 8 e (never 7 refl) (never 8 refl) (never 7 refl) (never 8 refl) p
-      by false true p q = λ h. among-cases Never 17 19 29 51 e (never 17 refl) (never 19 refl) (never 29 refl) (never 51 refl) q
-      by false false p q =
-          rw (p, q) (λ h. ⊎-elim (among-cases Never 6 16 18 28 e column-12 (never 16 refl) (never 18 refl) (never 28 refl)) (λ m. at-number Never e 50 m (never 50 refl)) (either-half _ _ h))
+  shared e h =
+      ⊎-elim
+      (λ p. ⊎-elim (λ m. at-number Never e 6 m column-12) (coordinate-cases Never e (never 7 refl) (never 8 refl)) (either-half (eqb e 6) _ p))
+      (λ p. ⊎-elim
+      (sign-cases Never e (never 16 refl) (never 18 refl) (never 28 refl) (never 50 refl))
+      (temperature-cases Never e (never 17 refl) (never 19 refl) (never 29 refl) (never 51 refl))
+      (either-half (isSign e) _ p))
+      (either-half (eqb e 6 || isCoordinate e) _ h)
 
   -- a steady element keeps its characters
   pub same : (e : ℕ) → steady e ≡ true → textOf e (result from to xs a) ≡ textOf e xs

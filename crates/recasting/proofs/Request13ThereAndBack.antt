@@ -18,7 +18,7 @@ use Rattle.element_sets.specs.declared.ElementSet.{ElementSet}
 use Rattle.element_sets.proofs.Demand3Losses.{has-exactly, empty-set, none-lost}
 use Rattle.layout.specs.declared.Edition.{Edition}
 use Rattle.layout.specs.Editions.{editionNumber, lengthOf}
-use Rattle.layout.specs.Page.{element, page, textOf}
+use Rattle.layout.specs.Page.{element, page, textOf, isCoordinate, isTemperature}
 use Rattle.layout.proofs.Beyond.{last-above}
 use Rattle.layout.proofs.Elements.{in-each}
 use Rattle.layout.proofs.Holding.{at-most}
@@ -100,7 +100,7 @@ module _ (from to : Edition) (xs : List ℕ) (a : Acceptable from xs) where
   not-lost = has-exactly lost 6 (lit≤ tt) (lit≤ tt) ∙ Never.column-12 from to xs a
 
   column-home : Home from (setOf lost) xs home 6
-  unfolding itemOf
+  unfolding itemOf isCoordinate isTemperature element page
   column-home = by (crosses from to) (blank (textOf 6 xs)) refl refl
     where
       moved : crosses from to ≡ true → blank (textOf 6 xs) ≡ false → Home from (setOf lost) xs home 6

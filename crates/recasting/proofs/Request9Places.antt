@@ -9,7 +9,7 @@ use borrow.Author.Tests.{le-leb, lt-leb}
 use Rattle.text.specs.Bytes.{every, blank, number, valueFrom}
 use Rattle.layout.specs.declared.Edition.{Edition}
 use Rattle.layout.specs.declared.Edition.the-variants.{One, Three, Four}
-use Rattle.layout.specs.Page.{textOf}
+use Rattle.layout.specs.Page.{textOf, isCoordinate, isTemperature, element, page}
 use Rattle.places.specs.declared.Place.{Place}
 use Rattle.places.specs.Places.{placeAt}
 use Rattle.places.specs.Digits.{keepsTie, mayStand, lowestDigit}
@@ -58,7 +58,7 @@ read ed digit latitude longitude p q r = rw (p, q, r)
 
 -- Every accepted record with a place, each of the nine pairs of editions.
 pub every-place : (from to : Edition) (xs : List ℕ) → Acceptable from xs → blank (textOf 6 xs) ≡ false → HasDigit from to xs
-unfolding tie itemOf
+unfolding tie itemOf isCoordinate isTemperature element page
 every-place from to xs a p =
     let tied = a .tied 1 in
     let q = latitude-alike (textOf 6 xs) (textOf 7 xs) (textOf 8 xs) tied ∙ p in

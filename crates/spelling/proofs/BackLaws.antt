@@ -11,14 +11,13 @@ use lib.Dec.{eqb, leb, lit<}
 use lib.IntN.{natAbs}
 use lib.ListN.{length}
 use Rattle.text.specs.Bytes.{every, between, either, printable, blank, digits, number, word}
-use Rattle.text.specs.LegalTexts.{among}
 use Rattle.text.proofs.Among.{either-half}
 use Rattle.text.proofs.Ranges.{least, greatest}
 use Rattle.text.proofs.Ways.{and-first, and-second}
 use Rattle.numerals.specs.Numerals.{spelled, spell}
 use Rattle.numerals.proofs.Backs.{digits-back, blanks-back, bytes-back, spelled-beyond}
 use Rattle.layout.specs.declared.Edition.{Edition}
-use Rattle.layout.specs.Page.{element, page, widthOf}
+use Rattle.layout.specs.Page.{element, page, widthOf, isText, isSign, isTemperature, isDeparture}
 use Rattle.layout.proofs.Holding.{Holds, empty, holds}
 use Rattle.ties.specs.Ties.{placeTie, signTie}
 use Rattle.ties.specs.Ties as Ties
@@ -27,7 +26,7 @@ use Rattle.reading.specs.declared.Reading.the-variants.{Missing, Code, Text}
 use Rattle.places.proofs.PlaceLaws.{digit-of-place, latitude-of-place, longitude-of-place}
 use Rattle.signs.specs.Signed.{signed, negative}
 use Rattle.signs.proofs.Signs.{distance}
-use Rattle.reading.specs.Readings.{alwaysText, plain, below, kindOf, temperature, departure, placeOf}
+use Rattle.reading.specs.Readings.{plain, below, kindOf, temperature, departure, placeOf}
 use Rattle.spelling.specs.Spelled.{signDigit, amountNumeral, placeNumeral, numeralFor}
 
 -- an element by itself
@@ -38,9 +37,9 @@ module _ (ed : Edition) (e : ℕ) (t : List ℕ) (long : length t ≡ widthOf e)
 
   pub plain-back : spell (widthOf e) (numeralFor ed e (plain e t)) ≡ t
   unfolding plain numeralFor
-  plain-back = by (blank t) (digits t && not (alwaysText e)) (eqb e 20 && leb (number t) 999) refl refl refl
+  plain-back = by (blank t) (digits t && not (isText e)) (eqb e 20 && leb (number t) 999) refl refl refl
     where
-      by : (x y z : Bool) → blank t ≡ x → (digits t && not (alwaysText e)) ≡ y → (eqb e 20 && leb (number t) 999) ≡ z →
+      by : (x y z : Bool) → blank t ≡ x → (digits t && not (isText e)) ≡ y → (eqb e 20 && leb (number t) 999) ≡ z →
           spell (widthOf e) (numeralFor ed e (cond x Missing (cond y (Code (cond z (number t + 10000) (number t))) (Text (word t))))) ≡ t
       by true y z p q r = blanks-back (widthOf e) t long p
       by false true true p q r =
@@ -75,12 +74,12 @@ module _ (ed : Edition) (s v : List ℕ) (tied : signTie s v ≡ true) where
   unfolding signTie
   no-minus-zero = and-second (Bool·beq (not (blank s)) (not (blank v))) _ tied
 
-  pub sign-back : (e : ℕ) → among 16 18 28 50 e ≡ true → length s ≡ widthOf e → Holds (either 0 2 5 7) s → spell (widthOf e) (numeralFor ed e (temperature s v)) ≡ s
+  pub sign-back : (e : ℕ) → isSign e ≡ true → length s ≡ widthOf e → Holds (either 0 2 5 7) s → spell (widthOf e) (numeralFor ed e (temperature s v)) ≡ s
   unfolding temperature numeralFor amountNumeral
   sign-back e g l (empty a) = rw a (blanks-back (widthOf e) s l a)
   sign-back e g l (holds a d p) = rw (a, alike ∙ a, g, digit-kept (number s) (number v) p no-minus-zero) (digits-back (widthOf e) s l d)
 
-  pub value-back : (e : ℕ) → among 16 18 28 50 e ≡ false → among 17 19 29 51 e ≡ true → length v ≡ widthOf e → Holds (between 0 999) v →
+  pub value-back : (e : ℕ) → isSign e ≡ false → isTemperature e ≡ true → length v ≡ widthOf e → Holds (between 0 999) v →
       spell (widthOf e) (numeralFor ed e (temperature s v)) ≡ v
   unfolding temperature numeralFor amountNumeral
   value-back e f g l (empty a) = rw (sym alike ∙ a) (blanks-back (widthOf e) v l a)
@@ -104,7 +103,7 @@ departed n p = ⊎-elim low high (either-half (between 0 99 n) (between 101 199 
         rw (le-leb 100 n (omega arith), part) sum
 
 pub departure-back : (ed : Edition) (t : List ℕ) → length t ≡ widthOf 91 → Holds (either 0 99 101 199) t → spell (widthOf 91) (numeralFor ed 91 (departure t)) ≡ t
-unfolding departure numeralFor amountNumeral
+unfolding departure numeralFor amountNumeral isDeparture isSign isTemperature element page
 departure-back ed t l (empty a) = rw a (blanks-back (widthOf 91) t l a)
 departure-back ed t l (holds a d p) = rw (a, departed (number t) p) (digits-back (widthOf 91) t l d)
 

@@ -11,12 +11,12 @@ use lib.IntN.{pos}
 use lib.ListN.{length}
 use Rattle.text.specs.Bytes.{every, between, either, blank, number, valueFrom}
 use Rattle.text.specs.declared.LegalTexts.the-variants.{Within}
-use Rattle.text.specs.LegalTexts.{among, allows}
+use Rattle.text.specs.LegalTexts.{allows}
 use Rattle.text.proofs.Among.{either-half}
 use Rattle.text.proofs.Ways.{and-first, and-second}
 use Rattle.numerals.specs.Numerals.{spelled, spell, inDigits, inBlanks}
 use Rattle.layout.specs.declared.Edition.{Edition}
-use Rattle.layout.specs.Page.{element, page, widthOf, legalTexts, mayBeBlank, legalText}
+use Rattle.layout.specs.Page.{element, page, widthOf, legalTexts, mayBeBlank, legalText, isSign, isTemperature}
 use Rattle.layout.proofs.Elements.{blank-legal, allowed-legal}
 use Rattle.layout.proofs.Holding.{Holds}
 use Rattle.ties.specs.Ties.{placeTie, signTie}
@@ -29,7 +29,7 @@ use Rattle.spelling.specs.Spelled.{amountNumeral, numeralFor}
 use Rattle.spelling.proofs.BackLaws.{sign-back, value-back, digit-back, latitude-back, longitude-back}
 
 -- a sign s and a temperature v, of which t and u are spelled
-module _ (ed : Edition) (e f : ℕ) (s v t u : List ℕ) (g : among 16 18 28 50 e ≡ true) (n : among 16 18 28 50 f ≡ false) (k : among 17 19 29 51 f ≡ true)
+module _ (ed : Edition) (e f : ℕ) (s v t u : List ℕ) (g : isSign e ≡ true) (n : isSign f ≡ false) (k : isTemperature f ≡ true)
     (one : widthOf e ≡ 1) (three : widthOf f ≡ 3) (may-e : mayBeBlank e ≡ true) (may-f : mayBeBlank f ≡ true)
     (long-s : length s ≡ widthOf e) (long-v : length v ≡ widthOf f) (sign : Holds (either 0 2 5 7) s) (value : Holds (between 0 999) v)
     (lawful-s : legalText ed e s ≡ true) (lawful-v : legalText ed f v ≡ true)

@@ -1,11 +1,12 @@
 -- What each way through the code that spells and compares says. Assumes nothing.
-use mathlib.Core.Path.{_≡_, sym, ap}
+use Rattle.layout.proofs.PartLaws.{departure-is}
+use Rattle.layout.specs.Page.{isDeparture, isSign, isTemperature}
+use mathlib.Core.Path.{_≡_, sym, ap, _∙_}
 use mathlib.Core.Bool.{Bool, true, false, cond, Bool·beq}
 use Prim.Native.Nat.{ℕ, _+_, _≤_, _<_}
 use borrow.Author.Tests.{eq-eqb, ne-eqb}
 use lib.Dec.{eqb, lit≤, lit<}
 use lib.IntN.{ℤ, natAbs}
-use Rattle.text.specs.LegalTexts.{among}
 use Rattle.numerals.specs.declared.Numeral.{Numeral}
 use Rattle.numerals.specs.Numerals.{inDigits, inBytes, inBlanks}
 use Rattle.layout.specs.declared.Edition.{Edition}
@@ -34,23 +35,23 @@ place-parts p x n e f = rw (e, f)
 
 -- an amount, by the kind of element
 module _ (e : ℕ) (a : ℤ) (k : Kind) where
-  pub amount-sign : among 16 18 28 50 e ≡ true → amountNumeral e a k ≡ inDigits (signDigit (negative a) k)
+  pub amount-sign : isSign e ≡ true → amountNumeral e a k ≡ inDigits (signDigit (negative a) k)
   unfolding amountNumeral
   amount-sign h = rw h
 
-  module _ (p : among 16 18 28 50 e ≡ false) where
-    pub amount-value : among 17 19 29 51 e ≡ true → amountNumeral e a k ≡ inDigits (natAbs a)
+  module _ (p : isSign e ≡ false) where
+    pub amount-value : isTemperature e ≡ true → amountNumeral e a k ≡ inDigits (natAbs a)
     unfolding amountNumeral
     amount-value h = rw (p, h)
 
-    module _ (q : among 17 19 29 51 e ≡ false) where
+    module _ (q : isTemperature e ≡ false) where
       pub amount-departure : e ≡ 91 → amountNumeral e a k ≡ inDigits (cond (negative a) (natAbs a + 100) (natAbs a))
       unfolding amountNumeral
-      amount-departure h = rw (p, q, eq-eqb e 91 h)
+      amount-departure h = rw (p, q, departure-is e ∙ eq-eqb e 91 h)
 
       pub amount-none : (e ≡ 91 → ⊥) → amountNumeral e a k ≡ inBlanks
       unfolding amountNumeral
-      amount-none h = rw (p, q, ne-eqb e 91 h)
+      amount-none h = rw (p, q, departure-is e ∙ ne-eqb e 91 h)
 
 -- two readings taken apart, compared part by part
 module _ (a b : Reading) (p q : Parts) (e : p ≡ partsOf a) (f : q ≡ partsOf b) where
@@ -121,7 +122,7 @@ numeral-fits ed e Missing = blanks-fit
 numeral-fits ed e (Code n) = digits-fit n
 numeral-fits ed e (Text n) = bytes-fit n
 numeral-fits ed e (Amount a k) =
-    one-of-three (among 16 18 28 50 e) (among 17 19 29 51 e) (eqb e 91) (signDigit (negative a) k) (natAbs a) (cond (negative a) (natAbs a + 100) (natAbs a))
+    one-of-three (isSign e) (isTemperature e) (isDeparture e) (signDigit (negative a) k) (natAbs a) (cond (negative a) (natAbs a + 100) (natAbs a))
 numeral-fits ed e (At p) = one-of-three (eqb e 6) (eqb e 7) (eqb e 8) (p .digit) (latitudeFigure p) (longitudeFigure ed p)
 
 pub with-fit : (ed : Edition) (e : ℕ) (r : Reading) {m : Numeral} → m ≡ numeralFor ed e r → (m ≡ numeralFor ed e r) × ((0 < m .base) × (m .nought + m .base ≤ 256))

@@ -5,11 +5,10 @@ use mathlib.Core.List.{List}
 use lib.Dec.{eqb}
 use lib.IntN.{ℤ, natAbs}
 use lib.ListN.{getD}
-use Rattle.text.specs.LegalTexts.{among}
 use Rattle.numerals.specs.declared.Numeral.{Numeral}
 use Rattle.numerals.specs.Numerals.{inDigits, inBytes, inBlanks, spell}
 use Rattle.layout.specs.declared.Edition.{Edition}
-use Rattle.layout.specs.Page.{widthOf}
+use Rattle.layout.specs.Page.{widthOf, isDeparture, isSign, isTemperature}
 use Rattle.layout.specs.Records.{rowFrom, recordFrom}
 use Rattle.places.specs.declared.Place.{Place}
 use Rattle.places.specs.Places.{latitudeFigure, longitudeFigure}
@@ -30,9 +29,9 @@ signDigit below IcedComputed = 7
 -- an amount, in the columns of a sign, of a temperature, or of element 91, whose sign stands in the hundreds
 unfoldable pub amountNumeral : ℕ → ℤ → Kind → Numeral
 amountNumeral e a k =
-    cond (among 16 18 28 50 e) (inDigits (signDigit (negative a) k))
-    (cond (among 17 19 29 51 e) (inDigits (natAbs a))
-    (cond (eqb e 91) (inDigits (cond (negative a) (natAbs a + 100) (natAbs a)))
+    cond (isSign e) (inDigits (signDigit (negative a) k))
+    (cond (isTemperature e) (inDigits (natAbs a))
+    (cond (isDeparture e) (inDigits (cond (negative a) (natAbs a + 100) (natAbs a)))
     inBlanks))
 
 -- a place, in the columns of its digit, latitude and longitude

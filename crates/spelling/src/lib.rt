@@ -15,7 +15,7 @@ ghost use mathlib.Core.Path.{_≡_};
 ghost use mathlib.Core.Bool.{cond};
 ghost use Prim.Native.Nat.{_≤_, _<_, _+_, _^_};
 ghost use lib.ListN.{length};
-ghost use Rattle.text.specs.LegalTexts.{among};
+ghost use Rattle.layout.specs.Page.{isTemperature};
 ghost use Rattle.reading.specs.Answers.{readings};
 ghost use Rattle.spelling.specs.Spelled.{signDigit, amountNumeral, placeNumeral, numeralFor, rowFor};
 ghost use Rattle.spelling.specs.Same.{kindNumber, partsOf, same};
@@ -127,7 +127,7 @@ fn departure_number(below: bool, n: u64) -> u64
 
 // Is it a temperature, whose sign stands before it?
 fn is_value(e: usize) -> bool
-    ensures { λ r. ⌜ r ≡ among 17 19 29 51 e ⌝ }
+    ensures { λ r. ⌜ r ≡ isTemperature e ⌝ }
 {
     match e {
         17 => true,

@@ -11,7 +11,7 @@ use lib.Dec.{eqb, eqb·suc-suc, eqb·zero-suc}
 use lib.ListN.{length, getD, take, drop, drop-of-length-le, length-drop}
 use lib.Seq.{drop-cons, take-all}
 use Rattle.text.specs.Bytes.{every, either, run, blank}
-use Rattle.text.specs.LegalTexts.{isSign, callSign, digitOr}
+use Rattle.text.specs.LegalTexts.{inCallSign, callSign, digitOr}
 use Rattle.text.proofs.Ways.{and-first, and-second}
 
 module _ (p : ℕ → Bool) (xs : List ℕ) (i : ℕ) where
@@ -79,12 +79,12 @@ pub digit-or : (t : List ℕ) {x : ℕ} (y : ℕ) → y ≡ x → (z : ℕ) → 
 digit-or t {x} y e z f n g = rw (g, e, f) (whole-run (digitOr x) t)
 
 -- a call sign: too short a run, and what follows the run
-module _ (t : List ℕ) (n : ℕ) (e : n ≡ run isSign t) where
+module _ (t : List ℕ) (n : ℕ) (e : n ≡ run inCallSign t) where
   pub sign-short : n < 3 → false ≡ callSign t
   sign-short h = rw (← e, lt-leb 3 n h)
 
   pub sign-past : length t < n → false ≡ callSign t
-  sign-past h = absurd (omega (arith, e, run-fits isSign t))
+  sign-past h = absurd (omega (arith, e, run-fits inCallSign t))
 
   pub sign-rest : 3 ≤ n → blank (take (length t - n) (drop n t)) ≡ callSign t
   sign-rest h = rw (← e, le-leb 3 n h, take-all (length t - n) (drop n t) (rw length-drop (omega arith)))

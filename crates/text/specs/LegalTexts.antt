@@ -20,8 +20,8 @@ member n [] = false
 member n (x ∷ xs) = eqb n x || member n xs
 
 -- a character of a call sign: 0..9, A..Z
-abbrev pub isSign : ℕ → Bool
-isSign b = isDigit b || isLetter b
+abbrev pub inCallSign : ℕ → Bool
+inCallSign b = isDigit b || isLetter b
 
 -- a digit, or the byte x in its place
 abbrev pub digitOr : ℕ → ℕ → Bool
@@ -29,7 +29,7 @@ digitOr x b = isDigit b || between x x b
 
 -- three or more characters of a call sign, left, and blanks only after them
 abbrev pub callSign : List ℕ → Bool
-callSign t = leb 3 (run isSign t) && blank (drop (run isSign t) t)
+callSign t = leb 3 (run inCallSign t) && blank (drop (run inCallSign t) t)
 
 -- the text t is one of these texts
 unfoldable pub allows : LegalTexts → List ℕ → Bool

@@ -9,7 +9,7 @@ use Rattle.numerals.specs.Numerals.{spelled}
 use Rattle.layout.specs.declared.Edition.the-variants.{Four}
 use Rattle.refusals.specs.declared.Refusal.the-variants.{Illegal}
 use Rattle.refusals.specs.Lent.{refusing}
-use Rattle.layout.specs.Page.{element, page, columns, startOf, textOf, legal}
+use Rattle.layout.specs.Page.{element, page, columns, startOf, textOf, legal, isText, isDeparture, isCoordinate, isSign, isTemperature}
 use Rattle.layout.specs.Records.{rowFrom, recordFrom}
 use Rattle.places.specs.Places.{south, west, octantFits, placeAt, latitudeFigure, longitudeFigure}
 use Rattle.ties.specs.Ties.{placeTie, octantTie, signTie, lastDigit, digitTie, windTie, tie}
@@ -24,7 +24,7 @@ use Rattle.writing.proofs.Demand2TiesBroken.{missing, said, of-edition}
 
 -- 2 to the 32 and 3 is no month, though its last 32 bits are 3
 pub whole-code : writtenIn Four (said 3 (Code 4294967299) (of-edition 3 4)) ≡ refusing (Illegal 3)
-unfolding writtenIn missing said recordOf recordFrom rowFrom spelled numeralFor amountNumeral placeNumeral writes legal allows every valueFrom textOf startOf columns element page tie firstFrom itemOf plain temperature placeOf departure south west placeAt latitudeFigure longitudeFigure same partsOf octantTie octantFits placeTie signTie digitTie lastDigit windTie
+unfolding writtenIn missing said recordOf recordFrom rowFrom spelled numeralFor amountNumeral placeNumeral writes legal allows every valueFrom textOf startOf columns element page tie firstFrom itemOf plain temperature placeOf departure south west placeAt latitudeFigure longitudeFigure same partsOf octantTie octantFits placeTie signTie digitTie lastDigit windTie isText isDeparture isCoordinate isSign isTemperature
 whole-code = refl
 
 -- the lowest amount there is
@@ -32,10 +32,10 @@ abbrev pub farthest : Reading
 farthest = Amount (negsuc 9223372036854775807) Measured
 
 pub whole-amount : writtenIn Four (said 16 farthest (said 17 farthest (of-edition 3 4))) ≡ refusing (Illegal 16)
-unfolding writtenIn missing said recordOf recordFrom rowFrom spelled numeralFor amountNumeral placeNumeral writes legal allows every valueFrom textOf startOf columns element page tie firstFrom itemOf plain temperature placeOf departure south west placeAt latitudeFigure longitudeFigure same partsOf octantTie octantFits placeTie signTie digitTie lastDigit windTie
+unfolding writtenIn missing said recordOf recordFrom rowFrom spelled numeralFor amountNumeral placeNumeral writes legal allows every valueFrom textOf startOf columns element page tie firstFrom itemOf plain temperature placeOf departure south west placeAt latitudeFigure longitudeFigure same partsOf octantTie octantFits placeTie signTie digitTie lastDigit windTie isText isDeparture isCoordinate isSign isTemperature
 whole-amount = refl
 
 -- the greatest text there is
 pub whole-text : writtenIn Four (said 42 (Text 18446744073709551615) (of-edition 3 4)) ≡ refusing (Illegal 42)
-unfolding writtenIn missing said recordOf recordFrom rowFrom spelled numeralFor amountNumeral placeNumeral writes legal allows every valueFrom textOf startOf columns element page tie firstFrom itemOf plain temperature placeOf departure south west placeAt latitudeFigure longitudeFigure same partsOf octantTie octantFits placeTie signTie digitTie lastDigit windTie run
+unfolding writtenIn missing said recordOf recordFrom rowFrom spelled numeralFor amountNumeral placeNumeral writes legal allows every valueFrom textOf startOf columns element page tie firstFrom itemOf plain temperature placeOf departure south west placeAt latitudeFigure longitudeFigure same partsOf octantTie octantFits placeTie signTie digitTie lastDigit windTie run isText isDeparture isCoordinate isSign isTemperature
 whole-text = refl

@@ -1,4 +1,5 @@
 -- Demand 2: write refuses with 6 and element e exactly where e is the lowest element whose reading no legal texts give. Assumes nothing.
+use Rattle.layout.proofs.PartLaws.{coordinate-cases}
 use mathlib.Core.Path.{_≡_, refl, sym, ap, _∙_}
 use mathlib.Core.Logic.{_↔_, ⊎-elim}
 use mathlib.Core.Bool.{Bool, true, false, _&&_, true≢false}
@@ -8,13 +9,11 @@ use native.Mathlib.Nat.{le-refl, eq-or-lt-of-le}
 use native.Mathlib.Omega.{arith}
 use borrow.Author.Tests.{leb-true, leb-false}
 use lib.Dec.{leb, lit≤}
-use Rattle.text.specs.LegalTexts.{among}
 use Rattle.text.proofs.Ways.{and-first, and-second}
-use Rattle.text.proofs.Among.{among-cases}
 use Rattle.layout.specs.declared.Edition.{Edition}
 use Rattle.refusals.specs.declared.Refusal.the-variants.{Illegal}
 use Rattle.refusals.specs.Lent.{Call, refusing, Quiet}
-use Rattle.layout.specs.Page.{legal}
+use Rattle.layout.specs.Page.{legal, isCoordinate, isTemperature, element, page}
 use Rattle.reading.specs.declared.Reading.{Reading}
 use Rattle.reading.specs.Readings.{lead, readingOf}
 use Rattle.reading.proofs.ReadingLaws.{lead-is, lead-of-lead}
@@ -32,7 +31,8 @@ abbrev Rises : ℕ → Type 0
 Rises f = (e : ℕ) → 1 ≤ e → e ≤ f → lead e ≤ lead f
 
 lead-rises : (f : ℕ) → Rises f
-lead-rises f = by (among 7 8 7 8 f) (among 17 19 29 51 f) refl refl
+unfolding isCoordinate isTemperature element page
+lead-rises f = by (isCoordinate f) (isTemperature f) refl refl
   where
     under : (e k : ℕ) → 1 ≤ e → e ≤ k → lead e ≤ k
     under e k l h = let low = lead-is e l in omega (arith, low .high)
@@ -43,8 +43,8 @@ lead-rises f = by (among 7 8 7 8 f) (among 17 19 29 51 f) refl refl
     eight : Rises 8
     eight e l h = ⊎-elim (λ z. rw z (lit≤ tt)) (λ m. seven e l (omega arith)) (eq-or-lt-of-le h)
 
-    by : (x y : Bool) → among 7 8 7 8 f ≡ x → among 17 19 29 51 f ≡ y → Rises f
-    by true y p q = among-cases Rises 7 8 7 8 f seven eight seven eight p
+    by : (x y : Bool) → isCoordinate f ≡ x → isTemperature f ≡ y → Rises f
+    by true y p q = coordinate-cases Rises f seven eight p
     by false true p q = λ e l h. ⊎-elim (λ z. rw z (le-refl (lead f))) (λ m. rw (p, q) (under e (f - 1) l (omega arith))) (eq-or-lt-of-le h)
     by false false p q = λ e l h. rw (p, q) (under e f l h)
 

@@ -19,7 +19,7 @@ use Rattle.numerals.specs.Numerals.{spelled, spell, inDigits, inBlanks}
 use Rattle.layout.specs.declared.Edition.{Edition}
 use Rattle.refusals.specs.declared.Refusal.the-variants.{Broken}
 use Rattle.refusals.specs.Lent.{Call, refusing, Quiet}
-use Rattle.layout.specs.Page.{element, page, widthOf, textOf}
+use Rattle.layout.specs.Page.{element, page, widthOf, textOf, isSign, isCoordinate, isTemperature}
 use Rattle.layout.proofs.Beyond.{last-above}
 use Rattle.ties.specs.Ties.{placeTie, signTie, tie}
 use Rattle.ties.specs.Ties as Ties
@@ -42,7 +42,7 @@ abbrev pub between-readings : List ℕ
 between-readings = 2 ∷ 7 ∷ 8 ∷ 9 ∷ 10 ∷ []
 
 -- a sign and a temperature that are spelled from what they read as
-module _ (ed : Edition) (e f : ℕ) (s v : List ℕ) (g : among 16 18 28 50 e ≡ true) (one : widthOf e ≡ 1) (three : widthOf f ≡ 3)
+module _ (ed : Edition) (e f : ℕ) (s v : List ℕ) (g : isSign e ≡ true) (one : widthOf e ≡ 1) (three : widthOf f ≡ 3)
     (p : s ≡ spell (widthOf e) (numeralFor ed e (temperature s v))) (q : v ≡ spell (widthOf f) (numeralFor ed f (temperature s v))) where
   both-blank : temperature s v ≡ Missing → signTie s v ≡ true
   unfolding numeralFor signTie spelled valueFrom every
@@ -102,7 +102,7 @@ module _ (ed : Edition) (rs : List Reading) (each : (e : ℕ) → 1 ≤ e → e 
   text : (e : ℕ) → 1 ≤ e → e ≤ 51 → Text e ≡ spell (widthOf e) (numeralFor ed e (readingOf ed (recordOf ed rs) e))
   text e l h = own-text ed rs each e l (omega (arith, last-above ed))
 
-  pair : (e f : ℕ) → among 16 18 28 50 e ≡ true → widthOf e ≡ 1 → widthOf f ≡ 3 → 1 ≤ e → e ≤ 51 → 1 ≤ f → f ≤ 51 →
+  pair : (e f : ℕ) → isSign e ≡ true → widthOf e ≡ 1 → widthOf f ≡ 3 → 1 ≤ e → e ≤ 51 → 1 ≤ f → f ≤ 51 →
       readingOf ed (recordOf ed rs) e ≡ temperature (Text e) (Text f) → readingOf ed (recordOf ed rs) f ≡ temperature (Text e) (Text f) → signTie (Text e) (Text f) ≡ true
   pair e f g one three a b c d i j =
       sign-tied ed e f (Text e) (Text f) g one three
@@ -114,7 +114,7 @@ module _ (ed : Edition) (rs : List Reading) (each : (e : ℕ) → 1 ≤ e → e 
 
   -- where every reading could be written, ties 1 and 3 to 6 hold
   pub ties-kept : (k : ℕ) → within-readings k ≡ true → Tied k
-  unfolding tie itemOf element page
+  unfolding tie itemOf element page isCoordinate isSign isTemperature
   ties-kept k h =
       ⊎-elim
       (λ one. at-number Tied k 1 one (place-tied ed (Text 6) (Text 7) (Text 8) (text 6 (lit≤ tt) (lit≤ tt)) (text 7 (lit≤ tt) (lit≤ tt)) (text 8 (lit≤ tt) (lit≤ tt))))

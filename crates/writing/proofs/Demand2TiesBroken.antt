@@ -12,7 +12,7 @@ use Rattle.calendar.specs.Calendar.{leaps, lastDay}
 use Rattle.layout.specs.declared.Edition.the-variants.{One, Three, Four}
 use Rattle.refusals.specs.declared.Refusal.the-variants.{Broken}
 use Rattle.refusals.specs.Lent.{Call, refusing, Quiet}
-use Rattle.layout.specs.Page.{element, page, columns, startOf, textOf, legal}
+use Rattle.layout.specs.Page.{element, page, columns, startOf, textOf, legal, isText, isDeparture, isCoordinate, isSign, isTemperature}
 use Rattle.layout.specs.Records.{rowFrom, recordFrom}
 use Rattle.places.specs.Places.{south, west, octantFits, placeAt, latitudeFigure, longitudeFigure}
 use Rattle.ties.specs.Ties.{placeTie, octantTie, signTie, lastDigit, digitTie, windTie, latestDay, dayTie, tie, firstBroken}
@@ -55,5 +55,5 @@ broken-each =
 
 -- each of those ties can be broken
 pub breaks-each : broken-each ≡ map (λ k. refusing (Broken k)) between-readings
-unfolding writtenIn missing said recordOf recordFrom rowFrom spelled numeralFor amountNumeral placeNumeral writes legal allows every valueFrom textOf startOf columns element page tie firstBroken firstFrom itemOf plain temperature placeOf departure south west placeAt latitudeFigure longitudeFigure same partsOf octantTie octantFits placeTie signTie digitTie lastDigit windTie dayTie latestDay leaps lastDay
+unfolding writtenIn missing said recordOf recordFrom rowFrom spelled numeralFor amountNumeral placeNumeral writes legal allows every valueFrom textOf startOf columns element page tie firstBroken firstFrom itemOf plain temperature placeOf departure south west placeAt latitudeFigure longitudeFigure same partsOf octantTie octantFits placeTie signTie digitTie lastDigit windTie dayTie latestDay leaps lastDay isText isDeparture isCoordinate isSign isTemperature
 breaks-each = refl

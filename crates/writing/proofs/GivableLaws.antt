@@ -1,4 +1,5 @@
 -- What some legal texts give, the texts that are spelled give: element by element, with those that share its reading. Assumes nothing.
+use Rattle.layout.proofs.PartLaws.{coordinate-cases, sign-cases, temperature-cases, departure-is}
 use mathlib.Core.Path.{_≡_, refl, sym, ap, _∙_}
 use mathlib.Core.Bool.{Bool, true, false, true≢false}
 use mathlib.Core.Logic.{⊎-elim}
@@ -10,13 +11,13 @@ use lib.Dec.{eqb, leb, lit≤}
 use lib.ListN.{length}
 use Rattle.text.specs.Bytes.{every, between, blank, number, valueFrom}
 use Rattle.text.specs.declared.LegalTexts.the-variants.{Within}
-use Rattle.text.specs.LegalTexts.{among, allows}
+use Rattle.text.specs.LegalTexts.{allows}
 use Rattle.numerals.specs.Numerals.{spell}
 use Rattle.text.proofs.Ranges.{greatest}
-use Rattle.text.proofs.Among.{at-number, among-cases}
+use Rattle.text.proofs.Among.{at-number}
 use Rattle.layout.specs.declared.Edition.{Edition}
 use Rattle.layout.specs.Editions.{lastOf}
-use Rattle.layout.specs.Page.{element, page, widthOf, textOf, legalTexts, mayBeBlank, legalText, legal}
+use Rattle.layout.specs.Page.{element, page, widthOf, textOf, legalTexts, mayBeBlank, legalText, legal, isDeparture, isCoordinate, isSign, isTemperature, isText}
 use Rattle.layout.proofs.Beyond.{last-above, text-none}
 use Rattle.layout.proofs.Elements.{last-below, in-each}
 use Rattle.layout.proofs.Holding.{Holds, empty, holds, in-digits, within}
@@ -75,7 +76,7 @@ module _ (ed : Edition) (rs : List Reading) (e : ℕ) (g : Givable ed rs e) wher
   places : 6 ≡ lead e →
       (legalText ed 6 (textOf 6 ys) ≡ true) × ((legalText ed 7 (textOf 7 ys) ≡ true) × ((legalText ed 8 (textOf 8 ys) ≡ true) ×
       (placeOf ed (textOf 6 ys) (textOf 7 ys) (textOf 8 ys) ≡ placeOf ed (textOf 6 xs) (textOf 7 xs) (textOf 8 xs))))
-  unfolding itemOf element page legal
+  unfolding itemOf element page legal isCoordinate isTemperature
   places s =
       place-kept ed (textOf 6 xs) (textOf 7 xs) (textOf 8 xs) (textOf 6 ys) (textOf 7 ys) (textOf 8 ys) (isDigitOf ed)
       (long 6 (lit≤ tt)) (long 7 (lit≤ tt)) (long 8 (lit≤ tt))
@@ -90,12 +91,12 @@ module _ (ed : Edition) (rs : List Reading) (e : ℕ) (g : Givable ed rs e) wher
       (spelled-text 8 (lit≤ tt) (held 8 (lit≤ tt)) s)
 
   kept-6 : Sharing 6
-  unfolding itemOf legal
+  unfolding itemOf legal isCoordinate isTemperature element page
   kept-6 h s = let r = places s in (r .0, r .1 .1 .1)
 
-  kept-7-8 : (f : ℕ) → among 7 8 7 8 f ≡ true → Sharing f
-  unfolding itemOf legal
-  kept-7-8 f = among-cases Sharing 7 8 7 8 f kept-7 kept-8 kept-7 kept-8
+  kept-7-8 : (f : ℕ) → isCoordinate f ≡ true → Sharing f
+  unfolding itemOf legal isCoordinate isTemperature element page
+  kept-7-8 f = coordinate-cases Sharing f kept-7 kept-8
     where
       kept-7 : Sharing 7
       kept-7 h s = let r = places s in (r .1 .0, r .1 .1 .1)
@@ -104,16 +105,16 @@ module _ (ed : Edition) (rs : List Reading) (e : ℕ) (g : Givable ed rs e) wher
       kept-8 h s = let r = places s in (r .1 .1 .0, r .1 .1 .1)
 
   -- where zero is written the sign is 0, or 5 for a minus that was computed, and that may stand there too
-  zero-sign : (a : ℕ) → among 16 18 28 50 a ≡ true → allows (legalTexts ed a) (48 ∷ []) ≡ true
+  zero-sign : (a : ℕ) → isSign a ≡ true → allows (legalTexts ed a) (48 ∷ []) ≡ true
   unfolding allows valueFrom every
   zero-sign a g = ⊎-elim (λ t. rw t) (λ t. rw t) (sign-texts ed a g)
 
-  five-sign : (a : ℕ) → among 16 18 28 50 a ≡ true → legal ed xs a ≡ true → blank (textOf a xs) ≡ false → number (textOf a xs) ≡ 6 → allows (legalTexts ed a) (53 ∷ []) ≡ true
+  five-sign : (a : ℕ) → isSign a ≡ true → legal ed xs a ≡ true → blank (textOf a xs) ≡ false → number (textOf a xs) ≡ 6 → allows (legalTexts ed a) (53 ∷ []) ≡ true
   unfolding allows valueFrom every
   five-sign a g l there six = ⊎-elim (λ t. no-six (textOf a xs) (within ed xs 0 1 a t l) there six) (λ t. rw t) (sign-texts ed a g)
 
   -- a sign and its temperature
-  pair : (a b : ℕ) → lead a ≡ lead e → lead b ≡ lead e → among 16 18 28 50 a ≡ true → among 16 18 28 50 b ≡ false → among 17 19 29 51 b ≡ true →
+  pair : (a b : ℕ) → lead a ≡ lead e → lead b ≡ lead e → isSign a ≡ true → isSign b ≡ false → isTemperature b ≡ true →
       widthOf a ≡ 1 → widthOf b ≡ 3 → mayBeBlank a ≡ true → mayBeBlank b ≡ true → 1 ≤ a → a ≤ 85 → 1 ≤ b → b ≤ 85 →
       ((zs : List ℕ) → readingOf ed zs a ≡ temperature (textOf a zs) (textOf b zs)) → ((zs : List ℕ) → readingOf ed zs b ≡ temperature (textOf a zs) (textOf b zs)) → Kept a × Kept b
   unfolding legal
@@ -128,16 +129,17 @@ module _ (ed : Edition) (rs : List Reading) (e : ℕ) (g : Givable ed rs e) wher
       ((both .0, ra ys ∙ both .1 .1 ∙ sym (ra xs)), (both .1 .0, rb ys ∙ both .1 .1 ∙ sym (rb xs)))
 
   -- of the air, the dew point, the sea and the wet bulb
-  pairs : (a : ℕ) → among 16 18 28 50 a ≡ true → lead a ≡ lead e → Kept a × Kept (a + 1)
-  unfolding itemOf element page
-  pairs a = among-cases (λ k. lead k ≡ lead e → Kept k × Kept (k + 1)) 16 18 28 50 a
+  pairs : (a : ℕ) → isSign a ≡ true → lead a ≡ lead e → Kept a × Kept (a + 1)
+  unfolding itemOf element page isCoordinate isSign isTemperature
+  pairs a = sign-cases (λ k. lead k ≡ lead e → Kept k × Kept (k + 1)) a
       (λ s. pair 16 17 s s refl refl refl refl refl refl refl (lit≤ tt) (lit≤ tt) (lit≤ tt) (lit≤ tt) (λ _. refl) (λ _. refl))
       (λ s. pair 18 19 s s refl refl refl refl refl refl refl (lit≤ tt) (lit≤ tt) (lit≤ tt) (lit≤ tt) (λ _. refl) (λ _. refl))
       (λ s. pair 28 29 s s refl refl refl refl refl refl refl (lit≤ tt) (lit≤ tt) (lit≤ tt) (lit≤ tt) (λ _. refl) (λ _. refl))
       (λ s. pair 50 51 s s refl refl refl refl refl refl refl (lit≤ tt) (lit≤ tt) (lit≤ tt) (lit≤ tt) (λ _. refl) (λ _. refl))
 
-  kept-values : (f : ℕ) → among 17 19 29 51 f ≡ true → Sharing f
-  kept-values f = among-cases Sharing 17 19 29 51 f (λ h s. pairs 16 refl s .1) (λ h s. pairs 18 refl s .1) (λ h s. pairs 28 refl s .1) (λ h s. pairs 50 refl s .1)
+  kept-values : (f : ℕ) → isTemperature f ≡ true → Sharing f
+  unfolding isCoordinate isSign isTemperature element page
+  kept-values f = temperature-cases Sharing f (λ h s. pairs 16 refl s .1) (λ h s. pairs 18 refl s .1) (λ h s. pairs 28 refl s .1) (λ h s. pairs 50 refl s .1)
 
   -- an element that shares its reading with none: the text is the same, also where the edition has no columns for it
   same-text : (f : ℕ) → (f ≤ lastOf ed → textOf f ys ≡ textOf f xs) → textOf f ys ≡ textOf f xs
@@ -148,7 +150,7 @@ module _ (ed : Edition) (rs : List Reading) (e : ℕ) (g : Givable ed rs e) wher
       by false h = text-none ed ys (record-long ed rs) f (leb-false _ _ h) ∙ sym (text-none ed xs (g .full) f (leb-false _ _ h))
 
   departed : Sharing 91
-  unfolding itemOf legal
+  unfolding itemOf legal isText isDeparture isCoordinate isSign isTemperature element page
   departed h s =
       let same : textOf 91 ys ≡ textOf 91 xs = same-text 91
       (λ l. spelled-text 91 (lit≤ tt) l s ∙ departure-back ed (textOf 91 xs) (text-long ed xs (g .full) 91 l) (departures ed xs l (lawful 91 (lit≤ tt) h s))) in
@@ -164,14 +166,14 @@ module _ (ed : Edition) (rs : List Reading) (e : ℕ) (g : Givable ed rs e) wher
 
   kept : (f : ℕ) → 1 ≤ f → Sharing f
   unfolding itemOf
-  kept f l h s = by (among 7 8 7 8 f) (among 17 19 29 51 f) (eqb f 6) (among 16 18 28 50 f) (eqb f 91) refl refl refl refl refl
+  kept f l h s = by (isCoordinate f) (isTemperature f) (eqb f 6) (isSign f) (isDeparture f) refl refl refl refl refl
     where
-      by : (p q r t u : Bool) → among 7 8 7 8 f ≡ p → among 17 19 29 51 f ≡ q → eqb f 6 ≡ r → among 16 18 28 50 f ≡ t → eqb f 91 ≡ u → Kept f
+      by : (p q r t u : Bool) → isCoordinate f ≡ p → isTemperature f ≡ q → eqb f 6 ≡ r → isSign f ≡ t → isDeparture f ≡ u → Kept f
       by true q r t u a b c d i = kept-7-8 f a h s
       by false true r t u a b c d i = kept-values f b h s
       by false false true t u a b c d i = at-number Sharing f 6 c kept-6 h s
       by false false false true u a b c d i = pairs f d s .0
-      by false false false false true a b c d i = at-number Sharing f 91 i departed h s
+      by false false false false true a b c d i = at-number Sharing f 91 (sym (departure-is f) ∙ i) departed h s
       by false false false false false a b c d i = alone f l (rw (a, b, c, d, i)) (rw (a, b, c, d, i)) h s
 
   -- what some legal texts give, the texts that are spelled give

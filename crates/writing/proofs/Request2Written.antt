@@ -13,7 +13,7 @@ use Rattle.layout.specs.declared.Named.the-variants.{Known}
 use Rattle.refusals.specs.declared.Refusal.the-variants.{Illegal}
 use Rattle.refusals.specs.Lent.{Call, refusing, Quiet}
 use Rattle.layout.specs.Editions.{asked}
-use Rattle.layout.specs.Page.{textOf}
+use Rattle.layout.specs.Page.{textOf, element, isCoordinate, isTemperature, page}
 use Rattle.places.specs.declared.Place.{Place}
 use Rattle.places.specs.Places.{Tens}
 use Rattle.reading.specs.declared.Reading.{Reading}
@@ -36,7 +36,7 @@ pub record By6 (rs : List Reading) (edition : ℕ) : Type 0 where
 module _ (ed : Edition) (rs : List Reading) (f : ℕ) (low : 1 ≤ f) (high : f ≤ 101) (shared : lead f ≡ 6) (p : Place) (gave : given rs f ≡ At p) where
   -- what legal texts give is a multiple of ten
   tens-given : Givable ed rs 6 → Tens p
-  unfolding itemOf
+  unfolding itemOf isCoordinate isTemperature element page
   tens-given g =
       let reads : placeOf ed (textOf 6 (g .text)) (textOf 7 (g .text)) (textOf 8 (g .text)) ≡ At p = sym (rw shared) ∙ g .reads f low high shared ∙ gave in
       gives-tens ed (textOf 6 (g .text)) (textOf 7 (g .text)) (textOf 8 (g .text)) p reads
@@ -49,7 +49,7 @@ module _ (ed : Edition) (rs : List Reading) (f : ℕ) (low : 1 ≤ f) (high : f 
 
   -- 6 with element 6, where legal texts give the readings before it
   pub refused-6 : (Tens p → ⊥) → ((j : ℕ) → 1 ≤ j → j < 6 → Givable ed rs j) → (edition : ℕ) → asked edition ≡ Known ed → written rs edition ≡ refusing (Illegal 6)
-  unfolding writtenAs
+  unfolding writtenAs isCoordinate isTemperature element page
   refused-6 off earlier edition e = rw e (refused-exactly ed rs 6 .1 (record { low = lit≤ tt; leads = refl; none = λ g. off (tens-given g); earlier = earlier }))
 
   -- and whatever the other readings are, 6 with an element no higher

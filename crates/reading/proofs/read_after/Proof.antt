@@ -4,7 +4,7 @@ use Rattle.layout.proofs.Elements.{last-below, next, part, within}
 use Rattle.layout.proofs.Parts.{own-width}
 use Rattle.layout.specs.declared.Edition.{Edition}
 use Rattle.layout.specs.Editions.{lengthOf}
-use Rattle.layout.specs.Page.{columns, startOf, textOf, widthOf}
+use Rattle.layout.specs.Page.{columns, startOf, textOf, widthOf, isDeparture}
 use Rattle.reading.proofs.ColumnLaws.{single, single-reads, single-width}
 use Rattle.reading.proofs.EntryLaws.{as-known, below, entry, holding, holds-below, holds-end, holds-turn}
 use Rattle.reading.proofs.ReadingLaws.{from-one, item-alone, lacking, lead-is, lower, shared}
@@ -171,7 +171,7 @@ loop-again-4 c =
     let width = test .before .before .before .before in
     let e = turn width .before .loop .e in
     let alone = item-alone _ _ _ (sym (test .before .is-leading .ensures) ∙ test .if3 .left) in
-    turned (turn width) _ (width .width-of .ensures) _ (ap entry (from-one (λ t. cond (eqb e 91) (departure t) (plain e t)) (c .alone-of .ensures) (own-part width) ∙ sym alone ∙ sym (own-lead (test .before .before))))
+    turned (turn width) _ (width .width-of .ensures) _ (ap entry (from-one (λ t. cond (isDeparture e) (departure t) (plain e t)) (c .alone-of .ensures) (own-part width) ∙ sym alone ∙ sym (own-lead (test .before .before))))
 
 returns : tie.Need-returns Inv-loop μ-loop
 unfolding readAfter

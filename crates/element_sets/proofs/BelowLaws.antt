@@ -1,5 +1,5 @@
--- The set that is built an element at a time: it starts empty, takes each element that is lost, and is in the end the set of all the lost passing.
--- A loop over the passing cites these. Assumes nothing.
+-- The set that is built an element at a time: it starts empty, takes each element that is lost, and is in the end the set of all the lost elements.
+-- A loop over the elements cites these. Assumes nothing.
 use mathlib.Core.Path.{_≡_, refl, sym, ap, _∙_}
 use mathlib.Core.Logic.{⊎-elim}
 use mathlib.Core.Bool.{Bool, true, false}
@@ -22,7 +22,7 @@ module _ (f : ℕ → Bool) where
   unfolding setBelow setOf
   below-all = refl
 
-  -- up to element 65 the first bits alone has bits, and from there on it is full
+  -- up to element 65 the first word alone has bits, and from there on it is full
   in-low : (e : ℕ) → e ≤ 65 → setBelow f e ≡ elementSet (bits f 1 (e - 1)) 0
   unfolding setBelow bits
   in-low e h =
@@ -35,7 +35,7 @@ module _ (f : ℕ → Bool) where
   in-high e h = let full : min (e - 1) 64 ≡ 64 = min-eq-right (omega arith) in rw full
 
   module _ (e : ℕ) where
-    -- a bits from element k on takes the bit of element e
+    -- a word from element k on takes the bit of element e
     word-takes : (k : ℕ) → k ≤ e → f e ≡ true → withBit (bits f k (e - k)) (e - k) ≡ bits f k (e + 1 - k)
     word-takes k h t =
         let here : k + (e - k) ≡ e = omega arith in

@@ -1,11 +1,11 @@
--- Demand 3: the two words are the set of the passing that are lost, whatever test says which these are. Assumes nothing.
---     listed-exactly, not-listed   the list has exactly the passing from 1 to 101 that are lost
+-- Demand 3: the two words are the set of the elements that are lost, whatever test says which these are. Assumes nothing.
+--     listed-exactly, not-listed   the list has exactly the elements from 1 to 101 that are lost
 --     rising                       in rising order, so each once
 --     test-is-membership           the test of a number's bit says whether the list has that number, whatever the number
 --     has-exactly                  and of an element, whether it is lost
---     ones-are-length              the ones of the two words are as many as the list has passing
+--     ones-are-length              the ones of the two words are as many as the list has elements
 --     lowest-is-head               the zeros below the lowest one give the first of the list, 0 where it is empty
---     same-losses, same-list       passing that are lost alike give the same set and the same list
+--     same-losses, same-list       elements that are lost alike give the same set and the same list
 --     empty-set, empty-list        where no element is lost, both are empty
 --     none-lost                    where the set is empty, none is lost
 use mathlib.Core.Path.{_≡_, refl, sym, ap, ap₂, _∙_}
@@ -32,7 +32,7 @@ module _ (f : ℕ → Bool) where
     pub not-listed : (e < 1) ⊎ (101 < e) → member e (listOf f) ≡ false
     not-listed = none-outside f e 1 101
 
-    -- of the n passing from k on, the bits has the bit of each that is lost
+    -- of the n elements from k on, the word has the bit of each that is lost
     word-says : (k n : ℕ) → k ≤ e → e < k + n → hasBit (bits f k n) (e - k) ≡ f e
     word-says k n h l = let here : k + (e - k) ≡ e = omega arith in has-bit f k n (e - k) (omega arith) ∙ ap f here
 

@@ -1,4 +1,4 @@
--- Words put together: two that are or-ed are the bits of either test; a bits moved up is the bits of the same test among more passing. Assumes nothing.
+-- Words put together: two that are or-ed are the word of either test; a word moved up is the word of the same test among more elements. Assumes nothing.
 use mathlib.Core.Path.{_≡_, refl, sym, ap, _∙_}
 use mathlib.Core.Bool.{Bool, true, false, _||_}
 use Prim.Native.Nat.{ℕ, zero, suc, _+_, _-_, _*_, _^_, _≤_, max}
@@ -23,7 +23,7 @@ or-words f g k (suc n) =
     rw (half (f k) (bits f (suc k) n), half (g k) (bits g (suc k) n), odd (f k) (bits f (suc k) n), odd (g k) (bits g (suc k) n), or-words f g (suc k) n, max-bits (f k) (g k))
     (omega arith)
 
--- the first m passing, and then the others
+-- the first m elements, and then the others
 word-split : (f : ℕ → Bool) (k m n : ℕ) → bits f k (m + n) ≡ bits f k m + bits f (k + m) n * 2 ^ m
 unfolding bits
 word-split f k zero n = rw (zero-add, add-zero) (omega arith)
@@ -31,7 +31,7 @@ word-split f k (suc m) n =
     let rest : bits f (suc k) (m + n) ≡ bits f (suc k) m + bits f (k + suc m) n * 2 ^ m = rw (add-suc, ← suc-add) (word-split f (suc k) m n) in
     rw (suc-add, pow-suc, ← mul-assoc) (omega (arith, rest))
 
--- a bits of m passing moved up by s places: g passes where f does, and nowhere else
+-- a word of m elements moved up by s places: g passes where f does, and nowhere else
 pub placed-word : (f g : ℕ → Bool) (k s m n : ℕ) → s + m ≤ n → Agree f g (k + s) m → Agree g (λ e. false) k s → Agree g (λ e. false) (k + s + m) (n - (s + m)) →
     bits f (k + s) m * 2 ^ s ≡ bits g k n
 placed-word f g k s m n h same below above =

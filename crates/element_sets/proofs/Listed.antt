@@ -1,5 +1,5 @@
 -- The laws of `passing`: the list has an element exactly where it passes the test, rises, and is the list of the first of them and then that of the
--- others; tests that agree give the same list and the same bits. Assumes nothing.
+-- others; tests that agree give the same list and the same word. Assumes nothing.
 use mathlib.Core.Path.{_≡_, refl, sym, ap, ap₂, _∙_}
 use mathlib.Core.List.{List, [], _∷_, _++_}
 use mathlib.Core.Logic.{_⊎_, inl, inr}
@@ -66,7 +66,7 @@ elements-rise f j k (suc n) h = by (elements-rise f k (suc k) n (omega arith)) (
     by here there true = rw (lt-ltb j k h) here
     by here there false = there
 
--- two tests that agree on the n passing from k on
+-- two tests that agree on the n elements from k on
 abbrev pub Agree : (ℕ → Bool) → (ℕ → Bool) → ℕ → ℕ → Type 0
 Agree f g k n = (e : ℕ) → k ≤ e → e < k + n → f e ≡ g e
 

@@ -1,4 +1,4 @@
--- What each way through the tests of an element's number says of the set: which bits has the bit, if any. Assumes nothing.
+-- What each way through the tests of an element's number says of the set: which word has the bit, if any. Assumes nothing.
 use mathlib.Core.Path.{_≡_, refl, ap, _∙_}
 use mathlib.Core.Logic.{_⊎_, inl, inr}
 use mathlib.Core.Bool.{Bool, true, false}
@@ -21,11 +21,11 @@ up-to-or-past m n = by (leb m n) refl
     by true e = inl (leb-true m n e)
     by false e = inr (leb-false m n e)
 
--- a one shifted to bit k of a bits
+-- a one shifted to bit k of a word
 one-shifted : (k : ℕ) → k < 64 → 1 * 2 ^ k % 2 ^ 64 ≡ 2 ^ k
 one-shifted k h = shl-exact 1 k 64 (lit< tt) (omega arith) ∙ one-mul (2 ^ k)
 
--- a set with a one shifted into a bits
+-- a set with a one shifted into a word
 pub low-masked : (s : ElementSet) (k : ℕ) → k < 64 → elementSet (bitOr (s .low) (1 * 2 ^ k % 2 ^ 64)) (s .high) ≡ elementSet (withBit (s .low) k) (s .high)
 low-masked s k h = ap (λ (x : ℕ). elementSet (bitOr (s .low) x) (s .high)) (one-shifted k h)
 

@@ -1,4 +1,4 @@
--- The passing of a bits, taken from the lowest on: those of a bits that is not 0 are its lowest and then those of the bits without its lowest bit.
+-- The elements of a word, taken from the lowest on: those of a word that is not 0 are its lowest and then those of the word without its lowest bit.
 -- A loop over the words of a set cites these. Assumes nothing.
 use mathlib.Core.Path.{_≡_, refl, sym, ap, ap₂, _∙_}
 use mathlib.Core.List.{List, [], _∷_, _++_}
@@ -17,7 +17,7 @@ use Rattle.element_sets.specs.ElementSets.{passing, elementsIn, hasBit, 
 use Rattle.element_sets.proofs.Listed.{elements-split}
 use Rattle.element_sets.proofs.Ways.{has-low, has-high}
 
--- a bits is even or odd
+-- a word is even or odd
 parity : (w : ℕ) → (w % 2 ≡ 0) ⊎ (w % 2 ≡ 1)
 parity w = by (w % 2) refl
   where
@@ -26,13 +26,13 @@ parity w = by (w % 2) refl
     by (suc zero) e = inr e
     by (suc (suc p)) e = absurd (omega arith)
 
--- a bits of zeros has none
+-- a word of zeros has none
 pub elements-of-none : (k n : ℕ) → elementsIn k n 0 ≡ []
 unfolding elementsIn
 elements-of-none k zero = refl
 elements-of-none k (suc n) = elements-of-none (suc k) n
 
--- an odd bits loses its bit 0, and an even one that of its half
+-- an odd word loses its bit 0, and an even one that of its half
 odd-without : (w : ℕ) → w % 2 ≡ 1 → bitAnd w (w - 1) ≡ w / 2 * 2
 odd-without w o =
     let half : (w - 1) / 2 ≡ w / 2 = omega arith in
@@ -44,7 +44,7 @@ even-without w o h =
     let half : (w - 1) / 2 ≡ w / 2 - 1 = omega arith in
     and-step w (w - 1) ∙ rw (half, o) (omega arith)
 
--- the passing of a bits with a zero below it
+-- the elements of a word with a zero below it
 doubled : (k n w : ℕ) → elementsIn k (suc n) (w * 2) ≡ elementsIn (suc k) n w
 unfolding elementsIn
 doubled k n w =
@@ -52,7 +52,7 @@ doubled k n w =
     let even : w * 2 % 2 ≡ 0 = omega arith in
     rw (even, half)
 
--- those of a bits that is not 0: the zeros below its lowest one lead to the first, and the bits without that one has the others
+-- those of a word that is not 0: the zeros below its lowest one lead to the first, and the word without that one has the others
 pub lowest-first : (d k n w : ℕ) → n ≤ d → w < 2 ^ n → (w ≡ 0 → ⊥) → elementsIn k n w ≡ (k + trailingZeros d w) ∷ elementsIn k n (bitAnd w (w - 1))
 unfolding elementsIn trailingZeros
 lowest-first d k zero w l b h = absurd (h (omega arith))
@@ -66,11 +66,11 @@ lowest-first (suc d) k (suc n) w l b h = by (lowest-first d (suc k) n (w / 2) (o
         rw (o, even-without w o h, add-suc, ← suc-add) (rest (λ z. h (omega arith)) ∙
         ap (λ (xs : List ℕ). (suc k + trailingZeros d (w / 2)) ∷ xs) (sym (doubled k n (bitAnd (w / 2) (w / 2 - 1)))))
 
--- bit i + 1 of a bits is bit i of its half
+-- bit i + 1 of a word is bit i of its half
 bit-of-half : (w i : ℕ) → hasBit w (suc i) ≡ hasBit (w / 2) i
 bit-of-half w i = ap (λ (x : ℕ). eqb (x % 2) 1) (sym (shr-shr w 1 i ∙ ap (λ (x : ℕ). w / 2 ^ x) (one-add i)))
 
--- a test that each bit of a bits answers lists the passing of the bits
+-- a test that each bit of a word answers lists the elements of the word
 pub elements-by-bits : (f : ℕ → Bool) (k n w : ℕ) → ((i : ℕ) → i < n → f (k + i) ≡ hasBit w i) → passing f k n ≡ elementsIn k n w
 unfolding passing elementsIn
 elements-by-bits f k zero w a = refl
@@ -88,7 +88,7 @@ elements-within k (suc n) m w =
     let same : w % 2 ^ suc n % 2 ≡ w % 2 = ap (λ (x : ℕ). w % 2 ^ x % 2) (sym (add-one n)) ∙ mod-mod-pow w n 1 in
     rw (suc-add, half, same, elements-within (suc k) n m (w / 2))
 
--- a set's passing are those of its first bits, and then those of the 37 bits of its second that are elements'
+-- a set's elements are those of its first word, and then those of the 37 bits of its second that are elements'
 pub set-by-words : (s : ElementSet) → passing (hasElement s) 1 101 ≡ elementsIn 1 64 (s .low) ++ elementsIn 65 64 (s .high % 2 ^ 37)
 set-by-words s =
     elements-split (hasElement s) 1 64 37 ∙

@@ -1,5 +1,5 @@
 -- The laws of `bits`: it is below the power of its bits, grows by its highest bit, bit i of it says whether element k + i passes the test, it has as
--- many ones as the list has passing, and the zeros below its lowest one lead to the first of the list. Assumes nothing.
+-- many ones as the list has elements, and the zeros below its lowest one lead to the first of the list. Assumes nothing.
 use mathlib.Core.Path.{_≡_, refl, sym, ap, ap₂, _∙_}
 use mathlib.Core.List.{List, [], _∷_}
 use mathlib.Core.Bool.{Bool, true, false, cond}
@@ -29,7 +29,7 @@ unfolding bits
 word-below f k zero = lit< tt
 word-below f k (suc n) = rw pow-suc (omega (arith, word-below f (suc k) n, bit-below (f k)))
 
--- a bits of one bit more
+-- a word of one bit more
 word-grows : (f : ℕ → Bool) (k n : ℕ) → bits f k (suc n) ≡ bits f k n + bit (f (k + n)) * 2 ^ n
 unfolding bits
 word-grows f k zero = rw (add-zero k) (omega arith)
@@ -68,7 +68,7 @@ has-bit f k n i h = rw (word-bit f k n i h) (by (f (k + i)))
 pub has-no-bit : (f : ℕ → Bool) (k n i : ℕ) → n ≤ i → hasBit (bits f k n) i ≡ false
 has-no-bit f k n i h = rw (div-eq-of-lt (lt-of-lt-of-le (word-below f k n) (pow-mono h)))
 
--- as many ones as passing
+-- as many ones as elements
 pub word-ones : (f : ℕ → Bool) (k n : ℕ) → ones (bits f k n) ≡ length (passing f k n)
 unfolding bits passing ones
 word-ones f k zero = refl
@@ -95,7 +95,7 @@ word-first f k (suc n) (suc d) x xs l e =
     by rest true q = rw (add-zero) (cc)
     by rest false q = rw (add-suc, ← suc-add) (rest q)
 
--- an empty list has a bits of zeros, and another a bits with a one
+-- an empty list has a word of zeros, and another a word with a one
 pub word-none : (f : ℕ → Bool) (k n : ℕ) → passing f k n ≡ [] → bits f k n ≡ 0
 unfolding bits passing
 word-none f k zero e = refl

@@ -1,5 +1,5 @@
--- The elementSet: a test says of each element whether it is lost; the list of those that pass it, and the set of them as two words with one bit for
--- each element, element 1 bit 0 of the first and element 65 bit 0 of the second. Assumes nothing.
+-- Sets of elements, such as those that a recast loses: a test says of each element whether it is one; the list of those that pass it, and the set of them as two words
+-- with one bit for each element, element 1 bit 0 of the first and element 65 bit 0 of the second. Assumes nothing.
 use mathlib.Core.Path.{_≡_}
 use Prim.Native.Nat.{ℕ, zero, suc, _+_, _-_, _*_, _/_, _%_, _^_, min}
 use mathlib.Core.List.{List, [], _∷_}
@@ -13,17 +13,17 @@ abbrev pub bit : Bool → ℕ
 bit true = 1
 bit false = 0
 
--- of the n passing from k on, those that pass the test, rising
+-- of the n elements from k on, those that pass the test, rising
 unfoldable pub passing : (ℕ → Bool) → ℕ → ℕ → List ℕ
 passing f k zero = []
 passing f k (suc n) = cond (f k) (k ∷ passing f (suc k) n) (passing f (suc k) n)
 
--- the bits of n bits whose bit i says whether element k + i passes the test
+-- the word of n bits whose bit i says whether element k + i passes the test
 unfoldable pub bits : (ℕ → Bool) → ℕ → ℕ → ℕ
 bits f k zero = 0
 bits f k (suc n) = bit (f k) + bits f (suc k) n * 2
 
--- the passing of a bits of n bits whose bit 0 is element k, rising
+-- the elements of a word of n bits whose bit 0 is element k, rising
 unfoldable pub elementsIn : ℕ → ℕ → ℕ → List ℕ
 elementsIn k zero w = []
 elementsIn k (suc n) w = cond (eqb (w % 2) 1) (k ∷ elementsIn (suc k) n (w / 2)) (elementsIn (suc k) n (w / 2))
@@ -34,7 +34,7 @@ elementSet a b = record { low = a; high = b }
 abbrev pub noElements : ElementSet
 noElements = elementSet 0 0
 
--- the 101 passing: the list of those that pass the test, and the set of them
+-- the 101 elements: the list of those that pass the test, and the set of them
 abbrev pub listOf : (ℕ → Bool) → List ℕ
 listOf f = passing f 1 101
 
@@ -45,7 +45,7 @@ setOf f = elementSet (bits f 1 64) (bits f 65 37)
 unfoldable pub setBelow : (ℕ → Bool) → ℕ → ElementSet
 setBelow f e = elementSet (bits f 1 (min (e - 1) 64)) (bits f 65 (e - 65))
 
--- a bits with bit k set, and whether bit k of a bits is set
+-- a word with bit k set, and whether bit k of a word is set
 abbrev pub withBit : ℕ → ℕ → ℕ
 withBit w k = bitOr w (2 ^ k)
 

@@ -1,7 +1,7 @@
-// The set of the elements that a recast loses, one bit for each element, in two words: element 1 is
-// bit 0 of the first word, element 65 bit 0 of the second.
+// A set of elements, such as those that a recast loses, one bit for each element, in two words: element 1
+// is bit 0 of the first word, element 65 bit 0 of the second.
 //
-// The contracts cite `specs/ElementSet.antt`; that the set is the list of lost elements, and its number
+// The contracts cite `specs/ElementSets.antt`; that the set is the list of lost elements, and its number
 // of ones how many they are, is proved in `proofs/Demand3Losses.antt`.
 ghost use mathlib.Core.Path.{_≡_};
 ghost use Rattle.element_sets.specs.ElementSets.{noElements, withElement, hasElement, countOf, lowestOf};

@@ -21,13 +21,20 @@ editionNumber One = 1
 editionNumber Three = 3
 editionNumber Four = 4
 
--- each edition has a length of its own
+-- the most columns and the most elements that records of any edition have
+abbrev pub longestRecord : ℕ
+longestRecord = 159
+
+abbrev pub lastElement : ℕ
+lastElement = 101
+
+-- each edition has a length of its own, and a last element
 abbrev pub lengthOf : Edition → ℕ
 lengthOf One = 131
-lengthOf Three = 159
-lengthOf Four = 159
+lengthOf Three = longestRecord
+lengthOf Four = longestRecord
 
 abbrev pub lastOf : Edition → ℕ
 lastOf One = 85
-lastOf Three = 101
-lastOf Four = 101
+lastOf Three = lastElement
+lastOf Four = lastElement

@@ -5,7 +5,7 @@ use mathlib.Core.Bool.{true}
 use mathlib.Core.List.{List}
 use lib.ListN.{length}
 use Rattle.layout.specs.declared.Edition.{Edition}
-use Rattle.layout.specs.Editions.{lengthOf}
+use Rattle.layout.specs.Editions.{lengthOf, lastElement}
 use Rattle.layout.specs.Page.{textOf, legal}
 use Rattle.ties.specs.Ties.{there}
 use Rattle.reading.specs.Readings.{lead}
@@ -16,7 +16,7 @@ use Rattle.meanings.specs.Meaning.{meaningOf}
 pub record Expressible (from to : Edition) (xs : List ℕ) (e : ℕ) : Type 0 where
   pub text : List ℕ
   pub full : length text ≡ lengthOf to
-  pub lawful : (f : ℕ) → 1 ≤ f → f ≤ 101 → lead f ≡ lead e → legal to text f ≡ true
+  pub lawful : (f : ℕ) → 1 ≤ f → f ≤ lastElement → lead f ≡ lead e → legal to text f ≡ true
   pub means : meaningOf to text e ≡ meaningOf from xs e
 
 -- an element is lost: it is filled, and no legal text of the target has its meaning

@@ -2,6 +2,7 @@
 use Prim.Native.Nat.{ℕ, zero, suc, _+_, _-_}
 use mathlib.Core.List.{List, [], _∷_, map}
 use lib.ListN.{getD}
+use Rattle.layout.specs.Editions.{lastElement}
 use Rattle.checking.specs.declared.Answer.{Answer}
 use Rattle.checking.specs.declared.Answer.the-variants.{Accepted, Refused}
 use Rattle.checking.specs.Check.{checked}
@@ -17,7 +18,7 @@ entriesFrom reads e zero = []
 entriesFrom reads e (suc n) = record { reading = reads e } ∷ entriesFrom reads (e + 1) n
 
 abbrev pub entriesOf : (ℕ → Reading) → List Entry
-entriesOf reads = entriesFrom reads 1 101
+entriesOf reads = entriesFrom reads 1 lastElement
 
 -- an accepted record gives every reading, and those that its edition lacks are missing, having no columns; a refused one gives none
 unfoldable pub readAfter : Answer → List ℕ → Readings

@@ -5,7 +5,7 @@ use mathlib.Core.List.{List, [], _∷_, _++_}
 use lib.Dec.{eqb}
 use Rattle.text.specs.Bytes.{bytesOf}
 use Rattle.layout.specs.declared.Edition.{Edition}
-use Rattle.layout.specs.Editions.{editionNumber}
+use Rattle.layout.specs.Editions.{editionNumber, longestRecord}
 use Rattle.places.specs.declared.Place.{Place}
 use Rattle.checking.specs.declared.Answer.{Answer}
 use Rattle.checking.specs.declared.Answer.the-variants.{Accepted, Refused}
@@ -60,7 +60,7 @@ givesBack (writing q text) line = sameText text line
 givesBack (refusing r) line = false
 
 abbrev pub writtenBack : Edition → List Reading → List ℕ → Bool
-writtenBack edition rs line = givesBack (inRoom 159 (written rs (editionNumber edition))) line
+writtenBack edition rs line = givesBack (inRoom longestRecord (written rs (editionNumber edition))) line
 
 unfoldable pub writtenLine : ℕ → Bool → List ℕ
 writtenLine n same = decimal n ++ cond same (bytesOf " written same\n") (bytesOf " written other\n")

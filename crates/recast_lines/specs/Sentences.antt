@@ -4,7 +4,7 @@ use mathlib.Core.Bool.{Bool}
 use mathlib.Core.List.{List, [], _∷_, _++_}
 use Rattle.text.specs.Bytes.{bytesOf}
 use Rattle.layout.specs.declared.Edition.{Edition}
-use Rattle.layout.specs.Editions.{editionNumber}
+use Rattle.layout.specs.Editions.{editionNumber, lastElement, longestRecord}
 use Rattle.element_sets.specs.declared.ElementSet.{ElementSet}
 use Rattle.element_sets.specs.ElementSets.{passing, countOf, hasElement}
 use Rattle.recasting.specs.declared.Outcome.{Outcome}
@@ -30,7 +30,7 @@ numbers (n ∷ ns) = numbered (bytesOf " ") n ++ numbers ns
 
 -- the elements that are lost, rising
 abbrev pub lost : ElementSet → List ℕ
-lost l = numbers (passing (hasElement l) 1 101)
+lost l = numbers (passing (hasElement l) 1 lastElement)
 
 -- the line of a record: its count, then 'ok', how many elements are lost and which; or 'refused', number and place
 unfoldable pub lineOf : ℕ → Verdict → ElementSet → List ℕ
@@ -42,7 +42,7 @@ recastLine n o = lineOf n (o .verdict) (o .losses)
 
 -- the outcome of a record, with room for any; and what is said of it, and whether it is refused
 abbrev pub outcomeFor : Edition → List ℕ → Outcome
-outcomeFor edition line = outcomeIn 159 (recastOf line (editionNumber edition))
+outcomeFor edition line = outcomeIn longestRecord (recastOf line (editionNumber edition))
 
 abbrev pub recastSaid : Edition → ℕ → List ℕ → List ℕ
 recastSaid edition n line = recastLine n (outcomeFor edition line)

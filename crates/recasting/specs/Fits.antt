@@ -14,7 +14,7 @@ use Rattle.layout.specs.declared.Edition.{Edition}
 use Rattle.layout.specs.declared.Named.the-variants.{Known, Unknown}
 use Rattle.refusals.specs.declared.Refusal.{Refusal}
 use Rattle.refusals.specs.declared.Refusal.the-variants.{Unheld, Room}
-use Rattle.layout.specs.Editions.{asked, lengthOf, lastOf}
+use Rattle.layout.specs.Editions.{asked, lengthOf, lastOf, lastElement}
 use Rattle.refusals.specs.Lent.{overwritten}
 use Rattle.layout.specs.Page.{textOf}
 use Rattle.checking.specs.declared.Answer.the-variants.{Refused}
@@ -53,7 +53,7 @@ pub record Names (from to : Edition) (xs : List ℕ) (losses : ElementSet) : Typ
   pub test : ℕ → Bool
   pub words : losses ≡ setOf test
   pub version : test 65 ≡ false
-  pub exactly : (e : ℕ) → 1 ≤ e → e ≤ 101 → eqb e 65 ≡ false → (test e ≡ true) ↔ Lost from to xs e
+  pub exactly : (e : ℕ) → 1 ≤ e → e ≤ lastElement → eqb e 65 ≡ false → (test e ≡ true) ↔ Lost from to xs e
 
 pub data Fits (xs : List ℕ) (edition : ℕ) (before : List ℕ) : Outcome → List ℕ → Type 0 where
   refused : (r : Refusal) → Checking.Fits xs (Refused r) → Fits xs edition before (unrecast r) before

@@ -16,7 +16,7 @@ use Rattle.refusals.specs.declared.Refusal.{Refusal}
 use Rattle.refusals.specs.declared.Refusal.the-variants.{Unheld}
 use Rattle.refusals.specs.declared.Verdict.the-variants as Verdict
 use Rattle.refusals.specs.Lent.{Call, refusing, writing, inRoom, verdictOf}
-use Rattle.layout.specs.Editions.{asked, editionNumber}
+use Rattle.layout.specs.Editions.{asked, editionNumber, longestRecord}
 use Rattle.layout.specs.Page.{widthOf, textOf}
 use Rattle.layout.specs.Records.{recordFrom}
 use Rattle.ties.specs.Ties.{there}
@@ -44,7 +44,7 @@ abbrev pub blanks : ℕ → List ℕ
 blanks n = spell n inBlanks
 
 unfoldable pub widened : List ℕ → List ℕ
-widened xs = xs ++ blanks (159 - length xs)
+widened xs = xs ++ blanks (longestRecord - length xs)
 
 -- the text of element e in the target: an element that is kept keeps its characters, one that is lost is blank
 unfoldable pub recastText : Edition → Edition → List ℕ → ℕ → List ℕ

@@ -6,7 +6,7 @@ use lib.Dec.{eqb, leb}
 use lib.IntN.{ℤ, pos}
 use lib.ListN.{length, getD}
 use Rattle.refusals.specs.Lent.{overwritten}
-use Rattle.layout.specs.Editions.{editionNumber}
+use Rattle.layout.specs.Editions.{editionNumber, lastElement}
 use Rattle.checking.specs.declared.Answer.{Answer}
 use Rattle.checking.specs.declared.Answer.the-variants.{Accepted, Refused}
 use Rattle.reading.specs.declared.Entry.{Entry}
@@ -57,10 +57,10 @@ amountsFrom reads e zero = []
 amountsFrom reads e (suc n) = packed (reads e) .amount ∷ amountsFrom reads (e + 1) n
 
 abbrev pub numbersOf : List Entry → List ℕ
-numbersOf entries = numbersFrom (readAs entries) 1 101
+numbersOf entries = numbersFrom (readAs entries) 1 lastElement
 
 abbrev pub amountsOf : List Entry → List ℤ
-amountsOf entries = amountsFrom (readAs entries) 1 101
+amountsOf entries = amountsFrom (readAs entries) 1 lastElement
 
 -- the number of an accepted record's edition, 0 where it is refused
 unfoldable pub editionIn : Answer → ℕ
@@ -69,7 +69,7 @@ editionIn (Refused r) = 0
 
 -- room for the numbers of all elements, and what is laid at the front of what is lent where there is room
 abbrev pub room : List ℕ → List ℤ → Bool
-room numbers amounts = leb 404 (length numbers) && leb 101 (length amounts)
+room numbers amounts = leb (4 * lastElement) (length numbers) && leb lastElement (length amounts)
 
 abbrev pub laidIn : {A : Type 0} → Bool → List A → List A → List A
 laidIn fits laid before = cond fits (overwritten laid before) before

@@ -5,7 +5,7 @@ use mathlib.Core.Bool.{true}
 use mathlib.Core.List.{List}
 use lib.ListN.{length}
 use Rattle.layout.specs.declared.Edition.{Edition}
-use Rattle.layout.specs.Editions.{lengthOf}
+use Rattle.layout.specs.Editions.{lengthOf, lastElement}
 use Rattle.layout.specs.Page.{legal}
 use Rattle.reading.specs.declared.Reading.{Reading}
 use Rattle.reading.specs.Readings.{lead, readingOf}
@@ -16,8 +16,8 @@ use Rattle.spelling.specs.Spelled.{given}
 pub record Givable (ed : Edition) (rs : List Reading) (e : ℕ) : Type 0 where
   pub text : List ℕ
   pub full : length text ≡ lengthOf ed
-  pub lawful : (f : ℕ) → 1 ≤ f → f ≤ 101 → lead f ≡ lead e → legal ed text f ≡ true
-  pub reads : (f : ℕ) → 1 ≤ f → f ≤ 101 → lead f ≡ lead e → readingOf ed text f ≡ given rs f
+  pub lawful : (f : ℕ) → 1 ≤ f → f ≤ lastElement → lead f ≡ lead e → legal ed text f ≡ true
+  pub reads : (f : ℕ) → 1 ≤ f → f ≤ lastElement → lead f ≡ lead e → readingOf ed text f ≡ given rs f
 
 -- 6: the lowest element whose reading no legal texts give, the lowest of those that share it
 pub record Ungivable (ed : Edition) (rs : List Reading) (e : ℕ) : Type 0 where

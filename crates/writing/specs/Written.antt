@@ -7,7 +7,7 @@ use Rattle.layout.specs.declared.Edition.{Edition}
 use Rattle.layout.specs.declared.Named.{Named}
 use Rattle.layout.specs.declared.Named.the-variants.{Known, Unknown}
 use Rattle.refusals.specs.declared.Refusal.the-variants.{Illegal, Broken, Unheld}
-use Rattle.layout.specs.Editions.{asked}
+use Rattle.layout.specs.Editions.{asked, lastElement}
 use Rattle.layout.specs.Page.{legal}
 use Rattle.refusals.specs.Verdicts.{refusedAt}
 use Rattle.refusals.specs.Lent.{Call, refusing, writing, Quiet, quiet}
@@ -24,7 +24,7 @@ writes ed rs xs e = legal ed xs e && same (readingOf ed xs e) (given rs e)
 -- 6: of elements that share a reading the lowest is named; 7: the lowest tie
 unfoldable pub writtenIn : Edition → List Reading → Call Quiet
 writtenIn ed rs =
-    refusedAt refusing (λ e. Illegal (lead e)) (firstOf 101 (writes ed rs (recordOf ed rs)))
+    refusedAt refusing (λ e. Illegal (lead e)) (firstOf lastElement (writes ed rs (recordOf ed rs)))
     (refusedAt refusing Broken (firstBroken ed (recordOf ed rs))
     (writing quiet (recordOf ed rs)))
 

@@ -7,7 +7,8 @@ use Prim.Native.Nat.{ℕ, suc, _+_, _-_, _<_, _≤_, min}
 use native.Mathlib.Nat.{min-eq-left, min-eq-right}
 use native.Mathlib.Omega.{arith}
 use Rattle.element_sets.specs.declared.ElementSet.{ElementSet}
-use Rattle.element_sets.specs.ElementSets.{bits, elementSet, noElements, setOf, setBelow, withBit, withElement}
+use Rattle.element_sets.specs.ElementSets.{bits, elementSet, noElements, setOf, withBit, withElement}
+use Rattle.element_sets.specs.Loops.{setBelow}
 use Rattle.element_sets.proofs.Words.{word-set, word-not-set}
 use Rattle.element_sets.proofs.Ways.{up-to-or-past, with-low, with-high}
 

@@ -13,7 +13,8 @@ use lib.Bits.{bitAnd, and-step, and-self}
 use lib.Pow.{shr-shr, field, mod-mod-pow}
 use lib.Count.{trailingZeros, under}
 use Rattle.element_sets.specs.declared.ElementSet.{ElementSet}
-use Rattle.element_sets.specs.ElementSets.{passing, elementsIn, hasBit, hasElement}
+use Rattle.element_sets.specs.ElementSets.{passing, hasBit, hasElement}
+use Rattle.element_sets.specs.Loops.{elementsIn}
 use Rattle.element_sets.proofs.Listed.{elements-split}
 use Rattle.element_sets.proofs.Ways.{has-low, has-high}
 

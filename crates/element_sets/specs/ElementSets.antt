@@ -1,7 +1,7 @@
 -- Sets of elements, such as those that a recast loses: a test says of each element whether it is one; the list of those that pass it, and the set of them as two words
 -- with one bit for each element, element 1 bit 0 of the first and element 65 bit 0 of the second. Assumes nothing.
 use mathlib.Core.Path.{_≡_}
-use Prim.Native.Nat.{ℕ, zero, suc, _+_, _-_, _*_, _/_, _%_, _^_, min}
+use Prim.Native.Nat.{ℕ, zero, suc, _+_, _-_, _*_, _/_, _%_, _^_}
 use mathlib.Core.List.{List, [], _∷_}
 use mathlib.Core.Bool.{Bool, true, false, _&&_, _||_, cond}
 use lib.Dec.{eqb, leb, ltb}
@@ -23,11 +23,6 @@ unfoldable pub bits : (ℕ → Bool) → ℕ → ℕ → ℕ
 bits f k zero = 0
 bits f k (suc n) = bit (f k) + bits f (suc k) n * 2
 
--- the elements of a word of n bits whose bit 0 is element k, rising
-unfoldable pub elementsIn : ℕ → ℕ → ℕ → List ℕ
-elementsIn k zero w = []
-elementsIn k (suc n) w = cond (eqb (w % 2) 1) (k ∷ elementsIn (suc k) n (w / 2)) (elementsIn (suc k) n (w / 2))
-
 abbrev pub elementSet : ℕ → ℕ → ElementSet
 elementSet a b = record { low = a; high = b }
 
@@ -40,10 +35,6 @@ listOf f = passing f 1 101
 
 unfoldable pub setOf : (ℕ → Bool) → ElementSet
 setOf f = elementSet (bits f 1 64) (bits f 65 37)
-
--- the set of those below element e
-unfoldable pub setBelow : (ℕ → Bool) → ℕ → ElementSet
-setBelow f e = elementSet (bits f 1 (min (e - 1) 64)) (bits f 65 (e - 65))
 
 -- a word with bit k set, and whether bit k of a word is set
 abbrev pub withBit : ℕ → ℕ → ℕ

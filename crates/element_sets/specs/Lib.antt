@@ -1,1 +1,2 @@
 pub mod ElementSets
+pub mod Loops

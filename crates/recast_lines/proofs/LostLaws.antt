@@ -14,7 +14,7 @@ use Rattle.wording.specs.Wording.{decimal, numbered}
 use Rattle.wording.specs.Puts.{Puts}
 use Rattle.wording.proofs.WordingLaws.{small-number}
 use Rattle.element_sets.specs.declared.ElementSet.{ElementSet}
-use Rattle.element_sets.specs.ElementSets.{elementsIn}
+use Rattle.element_sets.specs.Loops.{elementsIn}
 use Rattle.element_sets.proofs.WordElements.{elements-of-none, elements-within, lowest-first, set-by-words}
 use Rattle.recast_lines.specs.Sentences.{numbers, lost}
 

@@ -9,7 +9,7 @@ use wording::put_numbered;
 use wording::put_text;
 ghost use Prim.Native.Nat.{_+_, _≤_};
 ghost use lib.ListN.{length};
-ghost use Rattle.element_sets.specs.ElementSets.{elementsIn};
+ghost use Rattle.element_sets.specs.Loops.{elementsIn};
 ghost use Rattle.refusals.specs.declared.Verdict.the-variants.{Fine};
 ghost use Rattle.refusals.specs.Verdicts.{isRefused};
 ghost use Rattle.wording.specs.Puts.{Puts};

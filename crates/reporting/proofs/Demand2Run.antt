@@ -28,26 +28,8 @@ use Rattle.reporting.specs.declared.Fed.{Fed}
 use Rattle.reporting.specs.declared.Finished.{Finished}
 use Rattle.reporting.specs.Lines.{linesFrom, linesOf, lastLine}
 use Rattle.reporting.specs.Report.{saidFor, refusedFor, recordsFrom, anyRefused, askedBy, recastIn, refusedIn, reportOn, refusedOn, reportOf}
-use Rattle.reporting.specs.Run.{
-  State,
-  state,
-  ledger,
-  start,
-  oneMore,
-  opened,
-  opening,
-  refusedAfter,
-  ledgerAfter,
-  saidOf,
-  stateAfter,
-  saidBy,
-  lastWords,
-  hasRefused,
-  endOf,
-  closing,
-  saidInPieces,
-  view,
-}
+use Rattle.reporting.specs.Run.{State, state, ledger, start, oneMore, opened, opening, refusedAfter, ledgerAfter, saidOf, stateAfter, saidBy, lastWords, hasRefused, endOf, closing, saidInPieces}
+use Rattle.reporting.specs.Contracts.{view}
 use Rattle.reporting.specs.Contracts.{Feeds, Finishes, closingMost}
 use Rattle.reporting.proofs.CutLaws.{said-cut, ledger-cut, kept-cut}
 use Rattle.reporting.proofs.RunLaws.{state-append, said-append}

@@ -11,7 +11,8 @@ use Rattle.wording.proofs.PutLaws.{also}
 use Rattle.reporting.specs.declared.Ledger.{Ledger}
 use Rattle.reporting.specs.declared.Run.{Run}
 use Rattle.reporting.specs.declared.Told.{Told}
-use Rattle.reporting.specs.Run.{state, ledgerAfter, saidOf, lastWords, hasRefused, endOf, closing, view}
+use Rattle.reporting.specs.Run.{state, ledgerAfter, saidOf, lastWords, hasRefused, endOf, closing}
+use Rattle.reporting.specs.Contracts.{view}
 use Rattle.reporting.specs.Contracts.{Tells, Finishes, closingMost}
 use Rattle.reporting.proofs.KeepLaws.{take-min}
 

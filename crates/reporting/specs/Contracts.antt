@@ -10,7 +10,11 @@ use Rattle.reporting.specs.declared.Told.{Told}
 use Rattle.reporting.specs.declared.Run.{Run}
 use Rattle.reporting.specs.declared.Fed.{Fed}
 use Rattle.reporting.specs.declared.Finished.{Finished}
-use Rattle.reporting.specs.Run.{ledgerAfter, saidOf, stateAfter, saidBy, endOf, hasRefused, closing, view}
+use Rattle.reporting.specs.Run.{ledgerAfter, saidOf, stateAfter, saidBy, endOf, hasRefused, closing, State, state}
+
+-- the state of a run of the code, which may hold no more than its array has
+abbrev pub view : Run → State
+view run = state (run .ledger) (take (run .length) (run .held))
 
 -- a line is told: the ledger after it, and what is said of it
 pub record Tells (l : Ledger) (line : List ℕ) (at : ℕ) (before after : List ℕ) (r : Told) : Type 0 where

@@ -3,7 +3,7 @@ use Prim.Native.Nat.{ℕ, _+_}
 use mathlib.Core.Bool.{Bool, true, cond}
 use mathlib.Core.List.{List, [], _∷_, _++_}
 use lib.Dec.{eqb, ltb}
-use lib.ListN.{length, take}
+use lib.ListN.{length}
 use Rattle.layout.specs.declared.Named.{Named}
 use Rattle.layout.specs.declared.Named.the-variants.{Known, Unknown}
 use Rattle.report_lines.specs.Sentences.{totals}
@@ -12,7 +12,6 @@ use Rattle.reporting.specs.declared.Job.the-variants.{Recast}
 use Rattle.reporting.specs.declared.Stage.{Stage}
 use Rattle.reporting.specs.declared.Stage.the-variants.{Asking, Closed, Telling}
 use Rattle.reporting.specs.declared.Ledger.{Ledger}
-use Rattle.reporting.specs.declared.Run.{Run}
 use Rattle.reporting.specs.Report.{saidFor, refusedFor, askedBy}
 
 -- the ledger after the lines that have ended, and the line so far: its first 160 bytes
@@ -120,7 +119,3 @@ closing s = closingWith (s .ledger) (s .held)
 unfoldable pub saidInPieces : State → List (List ℕ) → List ℕ
 saidInPieces s [] = closing s
 saidInPieces s (piece ∷ pieces) = saidBy s piece ++ saidInPieces (stateAfter s piece) pieces
-
--- the state of a run of the code, which may hold no more than its array has
-abbrev pub view : Run → State
-view run = state (run .ledger) (take (run .length) (run .held))

@@ -16,7 +16,8 @@ ghost use lib.ListN.{length, take};
 ghost use Rattle.wording.specs.Puts.{Puts};
 ghost use Rattle.report_lines.specs.Says.{lineMost, recordMost, Says};
 ghost use Rattle.reporting.specs.Report.{saidFor, refusedFor, askedBy};
-ghost use Rattle.reporting.specs.Run.{start, view, ledger, oneMore, refusedAfter, lastWords, hasRefused};
+ghost use Rattle.reporting.specs.Run.{start, ledger, oneMore, refusedAfter, lastWords, hasRefused};
+ghost use Rattle.reporting.specs.Contracts.{view};
 ghost use Rattle.reporting.specs.Contracts.{Tells, Feeds, Finishes};
 
 // What is told of each record.

@@ -11,14 +11,17 @@ use Rattle.blanking.proofs.blank.Tie as tie
 -- the elements end where or after they begin
 rises : (c : tie.After-start-of2) → c .before .before .start-of .result ≤ c .start-of2 .result
 rises c =
-    let args = c .before .before .before .before .args in
+    let start = c .before .before .before .before in
+    let args = start .args in
     omega (arith, c .before .before .start-of .ensures, c .start-of2 .ensures, start-rises (args .first) (args .last + 1) (omega arith))
 
 sub-blank-run : tie.Need-sub-blank-run
 sub-blank-run c = rises c
 
 blank-run-requires : tie.Need-blank-run-requires
-blank-run-requires c κs = (omega (arith, rises c, c .start-of2 .ensures), c .before .before .before .before .pre .1 .1)
+blank-run-requires c κs =
+    let start = c .before .before .before .before in
+    (omega (arith, rises c, c .start-of2 .ensures), start .pre .1 .1)
 
 returns : tie.Need-returns
 returns c =

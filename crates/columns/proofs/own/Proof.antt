@@ -17,13 +17,19 @@ own-requires-3 : tie.Need-own-requires-3
 own-requires-3 c κs = c .before .before .before .pre ∙ ap lengthOf (c .enum-told3 .given .1)
 
 returns : tie.Need-returns
-returns c = λ z. subst (λ (ed : Edition). Own ed (c .before .before .before .before .args .line .now)) (sym (c .before .enum-told .given .1)) (c .own .ensures z)
+returns c =
+    let start = c .before .before .before .before in
+    λ z. subst (λ (ed : Edition). Own ed (start .args .line .now)) (sym (c .before .enum-told .given .1)) (c .own .ensures z)
 
 returns-2 : tie.Need-returns-2
-returns-2 c = λ z. subst (λ (ed : Edition). Own ed (c .before .before .before .before .args .line .now)) (sym (c .before .enum-told2 .given .1)) (c .own2 .ensures z)
+returns-2 c =
+    let start = c .before .before .before .before in
+    λ z. subst (λ (ed : Edition). Own ed (start .args .line .now)) (sym (c .before .enum-told2 .given .1)) (c .own2 .ensures z)
 
 returns-3 : tie.Need-returns-3
-returns-3 c = λ z. subst (λ (ed : Edition). Own ed (c .before .before .before .before .args .line .now)) (sym (c .before .enum-told3 .given .1)) (c .own3 .ensures z)
+returns-3 c =
+    let start = c .before .before .before .before in
+    λ z. subst (λ (ed : Edition). Own ed (start .args .line .now)) (sym (c .before .enum-told3 .given .1)) (c .own3 .ensures z)
 
 pub own-spec : {M : Type 1} → statement M
 own-spec =

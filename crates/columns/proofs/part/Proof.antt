@@ -21,7 +21,8 @@ loop-holds c = (search needs, λ e. below-none _)
 
 loop-again : tie.Need-loop-again Inv-loop μ-loop
 loop-again c =
-    let loop = c .before .before .before .before .before .loop in
+    let turn = c .before .before .before .before .before in
+    let loop = turn .loop in
     let outside = c .before .outside in (
       search needs,
       λ e. let r = two-of (loop .bad) (bitOr (outside .result) (c .apart .result)) (loop .inv .1) (judge (outside .result) (c .apart .result) (outside .ensures) (c .apart .ensures)) e in

@@ -23,9 +23,11 @@ returns-2 : tie.Need-returns-2
 returns-2 c = λ e. absurd (true≢false (sym e))
 
 returns-3 : tie.Need-returns-3
-returns-3 c = λ e.
+returns-3 c =
+    let there = c .before .before .before .before in
+    λ e.
     let none = c .before .before .before .if1 .left in
-    let looked = c .before .before .before .before in
+    let looked = there in
     let s = looked .before .shared in
     let a = looked .alike in
     let start = looked .before .before .before in

@@ -16,10 +16,14 @@ first-byte-requires : tie.Need-first-byte-requires
 first-byte-requires c κs = has-first Three (c .before .before .args .line .now) (omega arith) _ (lit≤ tt) (lit≤ tt)
 
 first-byte-requires-2 : tie.Need-first-byte-requires-2
-first-byte-requires-2 c κs = has-first Three (c .before .before .before .before .args .line .now) (omega arith) _ (lit≤ tt) (lit≤ tt)
+first-byte-requires-2 c κs =
+    let start = c .before .before .before .before in
+    has-first Three (start .args .line .now) (omega arith) _ (lit≤ tt) (lit≤ tt)
 
 first-byte-requires-3 : tie.Need-first-byte-requires-3
-first-byte-requires-3 c κs = has-first Three (c .before .before .before .before .before .args .line .now) (omega arith) _ (lit≤ tt) (lit≤ tt)
+first-byte-requires-3 c κs =
+    let start = c .before .before .before .before .before in
+    has-first Three (start .args .line .now) (omega arith) _ (lit≤ tt) (lit≤ tt)
 
 returns : tie.Need-returns
 returns c =

@@ -17,7 +17,9 @@ first-byte-requires : tie.Need-first-byte-requires
 first-byte-requires c κs = let start = c .before .before .before in omega (arith, start .pre, begins (start .args .edition) 6 (lit≤ tt) (omega (arith, last-above (start .args .edition))))
 
 word-of-requires : tie.Need-word-of-requires
-word-of-requires c κs = let start = c .before .before .before .before in omega (arith, start .pre, ends (start .args .edition) 8 (omega (arith, last-above (start .args .edition))))
+word-of-requires c κs =
+    let there = c .before .before .before .before in
+    let start = there in omega (arith, start .pre, ends (start .args .edition) 8 (omega (arith, last-above (start .args .edition))))
 
 later-off-requires : tie.Need-later-off-requires
 later-off-requires c κs = c .before .before .before .pre ∙ ap lengthOf (c .enum-told2 .given .1)
@@ -33,10 +35,14 @@ returns c = λ z.
     (ap₂ octantNear (sym (octant .first-byte .ensures)) (sym (c .before .word-of .ensures)) ∙ passed _ (c .octant-off .ensures) z)
 
 returns-2 : tie.Need-returns-2
-returns-2 c = λ z. subst (λ (ed : Edition). Rest ed (c .before .before .before .before .args .line .now)) (sym (c .before .enum-told2 .given .1)) (c .later-off .ensures z)
+returns-2 c =
+    let start = c .before .before .before .before in
+    λ z. subst (λ (ed : Edition). Rest ed (start .args .line .now)) (sym (c .before .enum-told2 .given .1)) (c .later-off .ensures z)
 
 returns-3 : tie.Need-returns-3
-returns-3 c = λ z. subst (λ (ed : Edition). Rest ed (c .before .before .before .before .args .line .now)) (sym (c .before .enum-told3 .given .1)) (c .later-off2 .ensures z)
+returns-3 c =
+    let start = c .before .before .before .before in
+    λ z. subst (λ (ed : Edition). Rest ed (start .args .line .now)) (sym (c .before .enum-told3 .given .1)) (c .later-off2 .ensures z)
 
 pub rest-spec : {M : Type 1} → statement M
 rest-spec =

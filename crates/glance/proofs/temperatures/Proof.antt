@@ -27,7 +27,9 @@ first-byte-requires-2 c κs = omega (arith, begins One 1 (lit≤ tt) (lit≤ tt)
 
 temperature-requires : tie.Need-temperature-requires
 unfolding startOf columns page
-temperature-requires c κs = le-trans (lit≤ tt) (c .before .before .before .before .before .pre)
+temperature-requires c κs =
+    let start = c .before .before .before .before .before in
+    le-trans (lit≤ tt) (start .pre)
 
 temperature-requires-2 : tie.Need-temperature-requires-2
 unfolding startOf columns page

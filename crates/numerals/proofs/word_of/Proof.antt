@@ -30,14 +30,15 @@ add-n : tie.Need-add-n Inv-loop μ-loop
 add-n c = omega (arith, small (c .before .before), c .byte .ensures .1)
 
 loop-again : tie.Need-loop-again Inv-loop μ-loop
-loop-again c = (
-  omega arith,
-  (
-    byte-more _ _ _ (c .before .before .before .loop .inv .1 .0) (omega (arith, c .byte .ensures .1)),
-    c .before .before .before .loop .inv .1 .1 ∙ more 256 0 _ _ _ (c .before .before .loop-test .taken) ∙
-        ap (λ (b : ℕ). valueFrom 256 0 (c .before .before .before .loop .n * 256 + b) (drop (c .before .before .before .loop .i + 1) (c .before .before .before .before .before .args .text .now))) (sub-zero _ ∙ sym (c .byte .ensures .0)),
-  ),
-)
+loop-again c =
+    let start = c .before .before .before .before .before in (
+      omega arith,
+      (
+        byte-more _ _ _ (c .before .before .before .loop .inv .1 .0) (omega (arith, c .byte .ensures .1)),
+        c .before .before .before .loop .inv .1 .1 ∙ more 256 0 _ _ _ (c .before .before .loop-test .taken) ∙
+            ap (λ (b : ℕ). valueFrom 256 0 (c .before .before .before .loop .n * 256 + b) (drop (c .before .before .before .loop .i + 1) (start .args .text .now))) (sub-zero _ ∙ sym (c .byte .ensures .0)),
+      ),
+    )
 
 returns : tie.Need-returns Inv-loop μ-loop
 returns c = sym (c .before .loop .inv .1 .1 ∙ no-more 256 0 _ _ _ (c .loop-test .left))

@@ -19,7 +19,9 @@ first : (c : tie.After-columns) → now (c .columns .result) ≡ textOf (c .befo
 first c = own-columns _ _ _ _ _ (c .before .before .before .pre .1) (c .before .width-of .ensures) (c .columns .ensures .0)
 
 abbrev start : tie.After-width-of2 → tie.Start
-start c = c .before .before .before .before
+start c =
+    let there = c .before .before .before .before in
+    there
 
 starts : (c : tie.After-width-of2) → start c .args .at + c .width-of2 .result ≡ startOf (start c .args .e + 1)
 starts c = next _ _ _ (start c .pre .1) (c .width-of2 .ensures)
@@ -62,7 +64,9 @@ returns c =
     (second value ∙ ap (λ (e : ℕ). textOf (e + 1) line) (place .if1 .taken)) (third (c .before)) ∙ sym (item-place _ _ _ (place .if1 .taken))
 
 temperature-of-requires : tie.Need-temperature-of-requires
-temperature-of-requires c κs = (own-width _ _ _ (first (c .before .before .before .before)), own-width _ _ _ (second (c .before)))
+temperature-of-requires c κs =
+    let there = c .before .before .before .before in
+    (own-width _ _ _ (first (there)), own-width _ _ _ (second (c .before)))
 
 returns-2 : tie.Need-returns-2
 returns-2 c =

@@ -9,7 +9,9 @@ returns : tie.Need-returns
 returns c = plain-missing _ _ _ (c .before .is-blank .ensures) (c .if1 .taken)
 
 returns-2 : tie.Need-returns-2
-returns-2 c = plain-other _ _ _ (c .before .before .before .before .is-blank .ensures) (c .before .before .before .if1 .left) _ (c .before .before .all-between .ensures) (not-true _ (c .before .if2 .taken)) _ (c .word-of .ensures)
+returns-2 c =
+    let is-blank = c .before .before .before .before in
+    plain-other _ _ _ (is-blank .is-blank .ensures) (c .before .before .before .if1 .left) _ (c .before .before .all-between .ensures) (not-true _ (c .before .if2 .taken)) _ (c .word-of .ensures)
 
 returns-3 : tie.Need-returns-3
 returns-3 c =

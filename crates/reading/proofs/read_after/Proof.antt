@@ -131,7 +131,9 @@ element-set-from-entry : tie.Need-element-set-from-entry Inv-loop μ-loop
 element-set-from-entry c = omega arith
 
 item-at-requires : tie.Need-item-at-requires Inv-loop μ-loop
-item-at-requires c κs = (sym (c .before .is-leading .ensures) ∙ c .if3 .taken, turn (c .before .before .before .before) .before .loop .inv .1 .1 .0)
+item-at-requires c κs =
+    let there = c .before .before .before .before in
+    (sym (c .before .is-leading .ensures) ∙ c .if3 .taken, turn (there) .before .loop .inv .1 .1 .0)
 
 mul-t38 : tie.Need-mul-t38 Inv-loop μ-loop
 mul-t38 c = omega arith
@@ -145,7 +147,9 @@ part-alone-of-end c =
     ends (turn (width-of)) _ (width-of .width-of .ensures)
 
 alone-of-requires : tie.Need-alone-of-requires Inv-loop μ-loop
-alone-of-requires c κs = own-width _ _ _ (own-part (c .before .before .before .before .before))
+alone-of-requires c κs =
+    let there = c .before .before .before .before .before in
+    own-width _ _ _ (own-part (there))
 
 mul-t47 : tie.Need-mul-t47 Inv-loop μ-loop
 mul-t47 c = omega arith

@@ -8,19 +8,27 @@ use Rattle.reading_lines.proofs.put_kind.Tie as tie
 
 returns : tie.Need-returns
 unfolding kindWords bytesOf
-returns c = (rw (c .before .before .before .before .before .enum-told .given .1) (c .before .before .put-text .ensures), omega (arith, c .before .before .put-text .ensures .ends))
+returns c =
+    let enum-told = c .before .before .before .before .before in
+    (rw (enum-told .enum-told .given .1) (c .before .before .put-text .ensures), omega (arith, c .before .before .put-text .ensures .ends))
 
 returns-2 : tie.Need-returns-2
 unfolding kindWords bytesOf
-returns-2 c = (rw (c .before .before .before .before .before .enum-told2 .given .1) (c .before .before .put-text2 .ensures), omega (arith, c .before .before .put-text2 .ensures .ends))
+returns-2 c =
+    let enum-told = c .before .before .before .before .before in
+    (rw (enum-told .enum-told2 .given .1) (c .before .before .put-text2 .ensures), omega (arith, c .before .before .put-text2 .ensures .ends))
 
 returns-3 : tie.Need-returns-3
 unfolding kindWords bytesOf
-returns-3 c = (rw (c .before .before .before .before .before .enum-told3 .given .1) (c .before .before .put-text3 .ensures), omega (arith, c .before .before .put-text3 .ensures .ends))
+returns-3 c =
+    let enum-told = c .before .before .before .before .before in
+    (rw (enum-told .enum-told3 .given .1) (c .before .before .put-text3 .ensures), omega (arith, c .before .before .put-text3 .ensures .ends))
 
 returns-4 : tie.Need-returns-4
 unfolding kindWords bytesOf
-returns-4 c = (rw (c .before .before .before .before .before .enum-told4 .given .1) (c .before .before .put-text4 .ensures), omega (arith, c .before .before .put-text4 .ensures .ends))
+returns-4 c =
+    let enum-told = c .before .before .before .before .before in
+    (rw (enum-told .enum-told4 .given .1) (c .before .before .put-text4 .ensures), omega (arith, c .before .before .put-text4 .ensures .ends))
 
 pub put-kind-spec : {M : Type 1} → statement M
 put-kind-spec =

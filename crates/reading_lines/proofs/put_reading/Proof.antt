@@ -36,7 +36,9 @@ returns-4 c =
     rw (reading .reading3 .given .1) (renamed (ap (λ (a : ℤ). readingLine (start .args .count .now) (start .args .e) (Amount a (reading .reading3 .given .0 .1 .0))) itself) (c .before .before .put-amount .ensures .0), c .before .before .put-amount .ensures .1)
 
 returns-5 : tie.Need-returns-5
-returns-5 c = rw (c .before .before .before .before .before .reading4 .given .1) (c .before .before .put-place .ensures)
+returns-5 c =
+    let reading = c .before .before .before .before .before in
+    rw (reading .reading4 .given .1) (c .before .before .put-place .ensures)
 
 pub put-reading-spec : {M : Type 1} → statement M
 put-reading-spec =

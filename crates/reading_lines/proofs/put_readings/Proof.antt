@@ -19,7 +19,9 @@ put-reading-requires : tie.Need-put-reading-requires Inv-loop μ-loop
 put-reading-requires c κs = omega (arith, c .before .before .before .loop .inv .short, c .before .before .before .loop .inv .long, c .before .before .loop-test .taken)
 
 loop-less : tie.Need-loop-less Inv-loop μ-loop
-loop-less c = omega (arith, c .before .before .before .before .before .loop-test .taken)
+loop-less c =
+    let tested = c .before .before .before .before .before in
+    omega (arith, tested .loop-test .taken)
 
 loop-again : tie.Need-loop-again Inv-loop μ-loop
 loop-again c =

@@ -17,10 +17,14 @@ use Rattle.recasting.proofs.make.Tie as tie
 
 -- the row after what is lost was blanked: it was filled before, and the call began before that
 abbrev filled : tie.After-blank-lost → tie.After-fill
-filled c = c .before .before .before .before
+filled c =
+    let there = c .before .before .before .before in
+    there
 
 abbrev begun : tie.After-fill → tie.Start
-begun c = c .before .before .before .before
+begun c =
+    let there = c .before .before .before .before in
+    there
 
 -- it has the target's length
 long : (c : tie.After-blank-lost) → length (c .blank-lost .last .1 .1 .0) ≡ lengthOf (begun (filled c) .args .to)

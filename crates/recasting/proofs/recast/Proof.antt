@@ -9,7 +9,9 @@ use Rattle.recasting.proofs.recast.Statement.{statement}
 use Rattle.recasting.proofs.recast.Tie as tie
 
 recast-to-requires : tie.Need-recast-to-requires
-recast-to-requires c κs = sym (c .before .before .before .before .check .ensures) ∙ c .before .before .from .given .1
+recast-to-requires c κs =
+    let check = c .before .before .before .before in
+    sym (check .check .ensures) ∙ c .before .before .from .given .1
 
 returns : tie.Need-returns
 unfolding recastAfter

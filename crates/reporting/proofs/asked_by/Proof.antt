@@ -9,7 +9,9 @@ returns : tie.Need-returns
 returns c = asks-none _ (c .if1 .taken)
 
 returns-2 : tie.Need-returns-2
-returns-2 c = c .of-digit .ensures ∙ asks (c .before .before .before .before .args .line .now) (c .before .before .if1 .left)
+returns-2 c =
+    let start = c .before .before .before .before in
+    c .of-digit .ensures ∙ asks (start .args .line .now) (c .before .before .if1 .left)
 
 pub asked-by-spec : {M : Type 1} → statement M
 asked-by-spec = tie.close (tie.spec returns (λ c. search needs) (λ c κs. search needs) returns-2)

@@ -25,7 +25,9 @@ line-end-requires : tie.Need-line-end-requires Inv-loop μ-loop
 line-end-requires c κs = c .before .before .loop .inv .within
 
 slice-aggregate-keep : tie.Need-slice-aggregate-keep Inv-loop μ-loop
-slice-aggregate-keep c = sym (c .before .before .before .before .before .loop .inv .full)
+slice-aggregate-keep c =
+    let turn = c .before .before .before .before .before in
+    sym (turn .loop .inv .full)
 
 sub-keep : tie.Need-sub-keep Inv-loop μ-loop
 sub-keep c = omega (arith, c .before .before .line-end .ensures .0)
@@ -57,7 +59,9 @@ add-next : tie.Need-add-next Inv-loop μ-loop
 add-next c = omega (arith, c .before .line-end .ensures .1, c .if2 .left)
 
 slice-aggregate-take-ended : tie.Need-slice-aggregate-take-ended Inv-loop μ-loop
-slice-aggregate-take-ended c = sym (c .before .before .before .before .before .loop .inv .full)
+slice-aggregate-take-ended c =
+    let turn = c .before .before .before .before .before in
+    sym (turn .loop .inv .full)
 
 sub-take-ended : tie.Need-sub-take-ended Inv-loop μ-loop
 sub-take-ended c = omega (arith, c .before .before .line-end .ensures .0)

@@ -13,9 +13,10 @@ returns c = finish-short _ _ _ (c .if1 .taken)
 
 returns-2 : tie.Need-returns-2
 returns-2 c =
-    let start = c .before .before .before .before .before .before .before .before .before .before .before in
+    let there = c .before .before .before .before in
+    let start = there .before .before .before .before .before .before .before in
     let long : length (start .args .run .held) ≡ 160 = search needs in
-    let has-refused = c .before .before .before .before in
+    let has-refused = there in
     let tested = has-refused .before in
     let least = tested .before in
     let roomy = least .before .before .before in
@@ -33,9 +34,10 @@ slice-aggregate-take-line c =
 
 returns-3 : tie.Need-returns-3
 returns-3 c =
-    let start = c .before .before .before .before .before .before .before .before .before .before .before .before .before .before .before .before .before in
+    let there = c .before .before .before .before in
+    let start = there .before .before .before .before .before .before .before .before .before .before .before .before .before in
     let long : length (start .args .run .held) ≡ 160 = search needs in
-    let has-refused = c .before .before .before .before in
+    let has-refused = there in
     let take-line = has-refused .before .before .before .before in
     let tested = take-line .before .before .before in
     let least = tested .before in

@@ -8,13 +8,17 @@ use Rattle.reporting.proofs.put_last.Statement.{statement}
 use Rattle.reporting.proofs.put_last.Tie as tie
 
 returns : tie.Need-returns
-returns c = (stage-last _ Asking (c .before .before .before .before .enum-told .given .1) (c .before .before .put-not-held .ensures .0), c .before .before .put-not-held .ensures .1)
+returns c =
+    let enum-told = c .before .before .before .before in
+    (stage-last _ Asking (enum-told .enum-told .given .1) (c .before .before .put-not-held .ensures .0), c .before .before .put-not-held .ensures .1)
 
 returns-2 : tie.Need-returns-2
 returns-2 c = (stage-last _ Closed (c .enum-told2 .given .1) (nothing _ _), omega arith)
 
 returns-3 : tie.Need-returns-3
-returns-3 c = (stage-last _ (Telling _) (c .before .before .before .before .enum-told3 .given .1) (c .before .before .put-totals .ensures .0), c .before .before .put-totals .ensures .1)
+returns-3 c =
+    let enum-told = c .before .before .before .before in
+    (stage-last _ (Telling _) (enum-told .enum-told3 .given .1) (c .before .before .put-totals .ensures .0), c .before .before .put-totals .ensures .1)
 
 pub put-last-spec : {M : Type 1} → statement M
 put-last-spec =

@@ -6,13 +6,17 @@ use Rattle.reporting.proofs.take_line.Statement.{statement}
 use Rattle.reporting.proofs.take_line.Tie as tie
 
 returns : tie.Need-returns
-returns c = stage-tells _ Asking (c .before .before .before .before .enum-told .given .1) (c .before .before .take-first .ensures)
+returns c =
+    let enum-told = c .before .before .before .before in
+    stage-tells _ Asking (enum-told .enum-told .given .1) (c .before .before .take-first .ensures)
 
 returns-2 : tie.Need-returns-2
 returns-2 c = closed-tells _ _ _ _ (c .enum-told2 .given .1)
 
 returns-3 : tie.Need-returns-3
-returns-3 c = stage-tells _ (Telling _) (c .before .before .before .before .before .stage .given .1) (c .before .before .take-record .ensures)
+returns-3 c =
+    let stage = c .before .before .before .before .before in
+    stage-tells _ (Telling _) (stage .stage .given .1) (c .before .before .take-record .ensures)
 
 pub take-line-spec : {M : Type 1} → statement M
 take-line-spec =

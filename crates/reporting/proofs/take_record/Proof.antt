@@ -5,7 +5,9 @@ use Rattle.reporting.proofs.take_record.Statement.{statement}
 use Rattle.reporting.proofs.take_record.Tie as tie
 
 returns : tie.Need-returns
-returns c = record-tells _ _ _ _ _ (c .before .before .before .tell .result) _ (c .before .before .before .before .before .one-more .ensures) (c .refused-after .ensures) (c .before .before .before .tell .ensures)
+returns c =
+    let one-more = c .before .before .before .before .before in
+    record-tells _ _ _ _ _ (c .before .before .before .tell .result) _ (one-more .one-more .ensures) (c .refused-after .ensures) (c .before .before .before .tell .ensures)
 
 pub take-record-spec : {M : Type 1} → statement M
 take-record-spec =

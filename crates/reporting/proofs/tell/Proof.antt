@@ -4,13 +4,19 @@ use Rattle.reporting.proofs.tell.Statement.{statement}
 use Rattle.reporting.proofs.tell.Tie as tie
 
 returns : tie.Need-returns
-returns c = rw (c .before .before .before .before .enum-told .given .1) (c .before .before .tell .ensures)
+returns c =
+    let enum-told = c .before .before .before .before in
+    rw (enum-told .enum-told .given .1) (c .before .before .tell .ensures)
 
 returns-2 : tie.Need-returns-2
-returns-2 c = rw (c .before .before .before .before .enum-told2 .given .1) (c .before .before .tell2 .ensures)
+returns-2 c =
+    let enum-told = c .before .before .before .before in
+    rw (enum-told .enum-told2 .given .1) (c .before .before .tell2 .ensures)
 
 returns-3 : tie.Need-returns-3
-returns-3 c = rw (c .before .before .before .before .before .job .given .1) (c .before .before .tell3 .ensures)
+returns-3 c =
+    let job = c .before .before .before .before .before in
+    rw (job .job .given .1) (c .before .before .tell3 .ensures)
 
 pub tell-spec : {M : Type 1} → statement M
 tell-spec =

@@ -6,7 +6,9 @@ use Rattle.spelling.proofs.is_same.Statement.{statement}
 use Rattle.spelling.proofs.is_same.Tie as tie
 
 returns : tie.Need-returns
-returns c = other-case _ _ _ _ (c .before .before .before .before .parts-of .ensures) (c .before .before .before .parts-of2 .ensures) (c .if1 .taken)
+returns c =
+    let parts-of = c .before .before .before .before in
+    other-case _ _ _ _ (parts-of .parts-of .ensures) (c .before .before .before .parts-of2 .ensures) (c .if1 .taken)
 
 returns-2 : tie.Need-returns-2
 returns-2 c =

@@ -38,7 +38,9 @@ lead c = rw (c .lead-of .ensures) (lead-is _ (turn (c .before) .loop .inv .1 .1 
 
 -- the numeral is that of the reading that is given for the lowest element that shares it
 abbrev wide : tie.After-numeral-for Inv-loop μ-loop → tie.After-width-of Inv-loop μ-loop
-wide c = c .before .before .before .before
+wide c =
+    let there = c .before .before .before .before in
+    there
 
 numeral : (c : tie.After-numeral-for Inv-loop μ-loop) →
     c .numeral-for .result ≡ numeralFor (call (wide c) .args .edition) (turn (wide c) .loop .e) (given (readings (call (wide c) .args .t2)) (Reads.lead (turn (wide c) .loop .e)))

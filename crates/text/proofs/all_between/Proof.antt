@@ -21,15 +21,17 @@ returns c =
 
 returns-2 : tie.Need-returns-2 Inv-loop μ-loop
 returns-2 c =
-    sym (c .before .before .before .before .loop .inv .1 ∙
+    let turn = c .before .before .before .before in
+    sym (turn .loop .inv .1 ∙
     off (between _ _) _ _ (c .before .before .before .loop-test .taken) (rw (le-leb _ _ (c .before .if1 .left), lt-leb _ _ (c .if2 .taken))))
 
 loop-again : tie.Need-loop-again Inv-loop μ-loop
-loop-again c = (
-  search needs,
-  c .before .before .before .before .loop .inv .1 ∙
-      on (between _ _) _ _ (c .before .before .before .loop-test .taken) (rw (le-leb _ _ (c .before .if1 .left), le-leb _ _ (c .if2 .left))),
-)
+loop-again c =
+    let turn = c .before .before .before .before in (
+      search needs,
+      turn .loop .inv .1 ∙
+          on (between _ _) _ _ (c .before .before .before .loop-test .taken) (rw (le-leb _ _ (c .before .if1 .left), le-leb _ _ (c .if2 .left))),
+    )
 
 returns-3 : tie.Need-returns-3 Inv-loop μ-loop
 returns-3 c = sym (c .before .loop .inv .1 ∙ end (between _ _) _ _ (c .loop-test .left))

@@ -23,13 +23,17 @@ returns : tie.Need-returns Inv-loop μ-loop
 returns c = sym (c .before .before .before .loop .inv .1 .1 ∙ no-digit _ _ _ (c .before .before .loop-test .taken) (rw (lt-leb _ _ (c .if1 .taken))))
 
 returns-2 : tie.Need-returns-2 Inv-loop μ-loop
-returns-2 c = sym (c .before .before .before .before .loop .inv .1 .1 ∙ no-digit _ _ _ (c .before .before .before .loop-test .taken) (rw (le-leb _ _ (c .before .if1 .left), lt-leb _ _ (c .if2 .taken))))
+returns-2 c =
+    let turn = c .before .before .before .before in
+    sym (turn .loop .inv .1 .1 ∙ no-digit _ _ _ (c .before .before .before .loop-test .taken) (rw (le-leb _ _ (c .before .if1 .left), lt-leb _ _ (c .if2 .taken))))
 
 mul-n : tie.Need-mul-n Inv-loop μ-loop
 mul-n c = omega (arith, small (c .before .before .before))
 
 add-n : tie.Need-add-n Inv-loop μ-loop
-add-n c = omega (arith, small (c .before .before .before .before), c .value .ensures)
+add-n c =
+    let there = c .before .before .before .before in
+    omega (arith, small (there), c .value .ensures)
 
 loop-again : tie.Need-loop-again Inv-loop μ-loop
 loop-again c =

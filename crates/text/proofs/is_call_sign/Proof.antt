@@ -12,7 +12,9 @@ returns-2 : tie.Need-returns-2
 returns-2 c = sign-past _ _ (c .before .before .front .ensures) (c .if2 .taken)
 
 returns-3 : tie.Need-returns-3
-returns-3 c = c .is-blank .ensures ∙ sign-rest _ _ (c .before .before .before .before .front .ensures) (c .before .before .before .if1 .left)
+returns-3 c =
+    let front = c .before .before .before .before in
+    c .is-blank .ensures ∙ sign-rest _ _ (front .front .ensures) (c .before .before .before .if1 .left)
 
 pub is-call-sign-spec : {M : Type 1} → statement M
 is-call-sign-spec =

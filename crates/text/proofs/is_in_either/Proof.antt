@@ -8,7 +8,9 @@ use Rattle.text.proofs.is_in_either.Tie as tie
 
 returns : tie.Need-returns
 unfolding allows
-returns c = with-digits (either _ _ _ _) _ _ (c .before .before .before .before .digits-in .ensures) _ (c .before .before .n .given .1) _ (c .is-either .ensures)
+returns c =
+    let digits-in = c .before .before .before .before in
+    with-digits (either _ _ _ _) _ _ (digits-in .digits-in .ensures) _ (c .before .before .n .given .1) _ (c .is-either .ensures)
 
 returns-2 : tie.Need-returns-2
 unfolding allows

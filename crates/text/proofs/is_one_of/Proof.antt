@@ -7,7 +7,9 @@ use Rattle.text.proofs.is_one_of.Tie as tie
 
 returns : tie.Need-returns
 unfolding allows
-returns c = with-digits (among _ _ _ _) _ _ (c .before .before .before .before .digits-in .ensures) _ (c .before .before .n .given .1) _ (c .is-among .ensures)
+returns c =
+    let digits-in = c .before .before .before .before in
+    with-digits (among _ _ _ _) _ _ (digits-in .digits-in .ensures) _ (c .before .before .n .given .1) _ (c .is-among .ensures)
 
 returns-2 : tie.Need-returns-2
 unfolding allows

@@ -28,15 +28,16 @@ add-n : tie.Need-add-n Inv-loop μ-loop
 add-n c = omega (arith, small (c .before .before), low c)
 
 loop-again : tie.Need-loop-again Inv-loop μ-loop
-loop-again c = (
-  omega arith,
-  (
-    below-more _ _ _ (c .before .before .before .loop .inv .1 .0) (low c),
-    c .before .before .before .loop .inv .1 .1 ∙ more 10 48 _ _ _ (c .before .before .loop-test .taken) ∙
-        ap (λ (d : ℕ). numberFrom (c .before .before .before .loop .n * 10 + d) (drop (c .before .before .before .loop .i + 1) (c .before .before .before .before .before .args .text .now)))
-        (sym (c .digit-of .ensures)),
-  ),
-)
+loop-again c =
+    let start = c .before .before .before .before .before in (
+      omega arith,
+      (
+        below-more _ _ _ (c .before .before .before .loop .inv .1 .0) (low c),
+        c .before .before .before .loop .inv .1 .1 ∙ more 10 48 _ _ _ (c .before .before .loop-test .taken) ∙
+            ap (λ (d : ℕ). numberFrom (c .before .before .before .loop .n * 10 + d) (drop (c .before .before .before .loop .i + 1) (start .args .text .now)))
+            (sym (c .digit-of .ensures)),
+      ),
+    )
 
 returns : tie.Need-returns Inv-loop μ-loop
 returns c = sym (c .before .loop .inv .1 .1 ∙ no-more 10 48 _ _ _ (c .loop-test .left))

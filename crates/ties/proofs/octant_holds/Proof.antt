@@ -12,7 +12,9 @@ returns c = or-holds _ _ (c .before .is-blank .ensures) _ (c .if1 .taken)
 
 returns-2 : tie.Need-returns-2
 unfolding octantTie
-returns-2 c = or-goes-on _ _ (c .before .before .before .before .is-blank .ensures) _ _ (c .before .before .before .if1 .left) (octant-of _ _ (c .before .before .number-of .ensures) (c .before .number-of2 .ensures) (c .octant-fits .ensures))
+returns-2 c =
+    let is-blank = c .before .before .before .before in
+    or-goes-on _ _ (is-blank .is-blank .ensures) _ _ (c .before .before .before .if1 .left) (octant-of _ _ (c .before .before .number-of .ensures) (c .before .number-of2 .ensures) (c .octant-fits .ensures))
 
 pub octant-holds-spec : {M : Type 1} → statement M
 octant-holds-spec =

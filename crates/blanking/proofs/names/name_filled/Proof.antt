@@ -17,7 +17,8 @@ name-eight-requires-2 c κs = ((lit≤ tt, lit≤ tt), (omega (arith, start-belo
 returns : tie.Need-returns
 unfolding laterLost
 returns c =
-    let line = c .before .before .before .before .before .args .line .now in
+    let start = c .before .before .before .before .before in
+    let line = start .args .line .now in
     joined _ _ 65 37 _ _ (eight-word line 33 126 21 (omega arith) _ _ (c .before .before .before .name-eight .ensures) (c .before .before .moved .ensures)) (eight-word line 33 126 29 (omega arith) _ _ (c .before .name-eight2 .ensures) (c .moved2 .ensures))
 
 pub name-filled-spec : {M : Type 1} → statement M

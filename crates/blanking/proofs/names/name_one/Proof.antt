@@ -7,12 +7,14 @@ use Rattle.blanking.proofs.names.name_one.Tie as tie
 
 returns : tie.Need-returns
 returns c =
-    let args = c .before .before .before .before .args in
+    let start = c .before .before .before .before in
+    let args = start .args in
     rw (← (ap (between (args .low) (args .high)) (c .before .before .first-byte .ensures)), ← (c .before .is-in .ensures), c .if1 .taken)
 
 returns-2 : tie.Need-returns-2
 returns-2 c =
-    let args = c .before .before .before .before .args in
+    let start = c .before .before .before .before in
+    let args = start .args in
     rw (← (ap (between (args .low) (args .high)) (c .before .before .first-byte .ensures)), ← (c .before .is-in .ensures), c .if1 .left)
 
 pub name-one-spec : {M : Type 1} → statement M

@@ -16,13 +16,19 @@ returns : tie.Need-returns
 returns c = sym (lowest-low (c .before .before .before .args .self) (c .before .if1 .taken))
 
 add-result-2 : tie.Need-add-result-2
-add-result-2 c = omega (arith, trailing-le 64 (c .before .before .before .before .before .args .self .high))
+add-result-2 c =
+    let start = c .before .before .before .before .before in
+    omega (arith, trailing-le 64 (start .args .self .high))
 
 cast-result-2 : tie.Need-cast-result-2
-cast-result-2 c = omega (arith, trailing-le 64 (c .before .before .before .before .before .args .self .high))
+cast-result-2 c =
+    let start = c .before .before .before .before .before in
+    omega (arith, trailing-le 64 (start .args .self .high))
 
 returns-2 : tie.Need-returns-2
-returns-2 c = sym (lowest-high (c .before .before .before .before .before .args .self) (c .before .before .before .if1 .left) (c .before .if2 .taken))
+returns-2 c =
+    let start = c .before .before .before .before .before in
+    sym (lowest-high (start .args .self) (c .before .before .before .if1 .left) (c .before .if2 .taken))
 
 returns-3 : tie.Need-returns-3
 returns-3 c = sym (lowest-none _ (c .before .before .if1 .left) (c .if2 .left))

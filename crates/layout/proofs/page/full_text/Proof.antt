@@ -7,8 +7,9 @@ use Rattle.layout.proofs.page.full_text.Tie as tie
 
 returns : tie.Need-returns
 returns c =
+    let start = c .before .before .before .before in
     let own = part _ _ _ (c .before .before .start-of .ensures) (c .before .width-of .ensures) _ in
-    (own, own-width _ _ (c .before .before .before .before .args .e) own)
+    (own, own-width _ _ (start .args .e) own)
 
 pub full-text-spec : {M : Type 1} → statement M
 full-text-spec =

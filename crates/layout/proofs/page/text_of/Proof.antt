@@ -10,7 +10,9 @@ own : (c : tie.After-columns) → c .columns .result .now ≡ textOf (c .before 
 own c = own-columns _ _ _ _ _ (c .before .before .start-of .ensures) (c .before .width-of .ensures) (c .columns .ensures .0)
 
 returns : tie.Need-returns
-returns c = (own c, own-width _ _ (c .before .before .before .before .args .e) (own c))
+returns c =
+    let start = c .before .before .before .before in
+    (own c, own-width _ _ (start .args .e) (own c))
 
 pub text-of-spec : {M : Type 1} → statement M
 text-of-spec = tie.close (tie.spec (λ c κs. search needs) (λ c κs. search needs) (λ c κs. search needs) returns)

@@ -20,7 +20,7 @@ use Rattle.layout.specs.Page.{startOf, textOf, firstByte, legalText}
 use Rattle.layout.proofs.Beyond.{last-above, text-none}
 use Rattle.layout.proofs.Columns.{start-rises, filled}
 use Rattle.layout.proofs.RecordLaws.{ends}
-use Rattle.places.specs.Digits.{isFirst, crosses}
+use Rattle.places.specs.Column12.{isFirst, crosses}
 use Rattle.meanings.specs.Kept.{lostText, lostAt}
 use Rattle.blanking.specs.LostBytes.{Spot, inElement, changes, leaves, codesLost, countryLost, versionLost, flagsLost, laterLost, sharedLost, lostIn, named}
 use Rattle.blanking.proofs.Blanked.{or-none}

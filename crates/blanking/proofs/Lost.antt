@@ -30,7 +30,7 @@ use Rattle.layout.proofs.Elements.{in-each}
 use Rattle.layout.proofs.Lacking.{nothing-there}
 use Rattle.layout.proofs.Parts.{text-byte, one-byte}
 use Rattle.checking.proofs.PrintLaws.{legal-prints}
-use Rattle.places.specs.Digits.{isFirst, crosses}
+use Rattle.places.specs.Column12.{isFirst, crosses}
 use Rattle.meanings.specs.Meaning.{hasSenses, senseOf}
 use Rattle.meanings.specs.Kept.{keeps, lostText, lostAt}
 use Rattle.meanings.proofs.KeepLaws.{alike-kept, early-kept, added-kept}

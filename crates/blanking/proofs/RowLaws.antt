@@ -19,7 +19,7 @@ use Rattle.layout.proofs.Elements.{last-below}
 use Rattle.layout.proofs.Columns.{filled}
 use Rattle.layout.proofs.Parts.{text-byte}
 use Rattle.layout.proofs.RecordLaws.{ends, text-long}
-use Rattle.places.specs.Digits.{isFirst}
+use Rattle.places.specs.Column12.{isFirst}
 use Rattle.meanings.specs.Kept.{lostAt}
 use Rattle.blanking.specs.LostBytes.{blankedText, inColumn, leaves, laterLost, sharedLost, lostIn, blanked}
 use Rattle.blanking.proofs.Blanked.{or-none, blanked-length, byte-at, same-blanked, then}

@@ -11,7 +11,7 @@ use Rattle.text.proofs.Ways.{decide}
 use Rattle.layout.specs.declared.Edition.{Edition}
 use Rattle.layout.specs.Page.{widthOf, startOf}
 use Rattle.layout.proofs.Columns.{start-next, start-rises}
-use Rattle.places.specs.Digits.{isFirst, crosses}
+use Rattle.places.specs.Column12.{isFirst, crosses}
 use Rattle.blanking.specs.LostBytes.{inElement, inColumn, leaves, some, codesLost, countryLost, versionLost, flagsLost, laterLost, sharedLost, lostIn}
 use Rattle.blanking.proofs.Blanked.{or-none}
 

@@ -9,7 +9,7 @@ use Rattle.numerals.specs.Numerals.{spell, inBlanks}
 use Rattle.layout.specs.declared.Edition.{Edition}
 use Rattle.layout.specs.declared.Edition.the-variants.{One, Three, Four}
 use Rattle.layout.specs.Page.{widthOf, startOf, textOf, firstByte}
-use Rattle.places.specs.Digits.{isFirst, crosses}
+use Rattle.places.specs.Column12.{isFirst, crosses}
 use Rattle.meanings.specs.Kept.{lostAt}
 
 -- the text of element e where what is lost is blank and nothing else has changed

@@ -14,7 +14,7 @@ ghost use Rattle.text.specs.Bytes.{between};
 ghost use Rattle.element_sets.specs.ElementSets.{bits, setOf};
 ghost use Rattle.layout.specs.Editions.{lengthOf, lastOf};
 ghost use Rattle.layout.specs.Page.{startOf, textOf, firstByte, legalText};
-ghost use Rattle.places.specs.Digits.{isFirst};
+ghost use Rattle.places.specs.Column12.{isFirst};
 ghost use Rattle.meanings.specs.Kept.{lostAt};
 ghost use Rattle.blanking.specs.LostBytes.{leaves, codesLost, countryLost, versionLost, flagsLost, laterLost, named};
 

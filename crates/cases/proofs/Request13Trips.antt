@@ -15,7 +15,7 @@ use Rattle.layout.specs.declared.Edition.the-variants.{One, Three, Four}
 use Rattle.layout.specs.Page.{element, page, columns, startOf, textOf, legal}
 use Rattle.layout.specs.Records.{rowFrom, recordFrom}
 use Rattle.places.specs.Places.{south, west, octantFits, placeAt}
-use Rattle.places.specs.Digits.{suits, lowestDigit}
+use Rattle.places.specs.Column12.{suits, lowestDigit}
 use Rattle.ties.specs.Ties.{placeTie, octantTie, signTie, lastDigit, digitTie, windTie, latestDay, dayTie, tie, firstBroken}
 use Rattle.checking.specs.Check.{column, checkedIn, checked}
 use Rattle.meanings.specs.Meaning.{senseOf}

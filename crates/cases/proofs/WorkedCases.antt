@@ -14,7 +14,7 @@ use Rattle.calendar.specs.Calendar.{leaps, lastDay}
 use Rattle.layout.specs.Page.{element, page, columns, startOf, textOf, legal, isText, isDeparture, isCoordinate, isSign, isTemperature}
 use Rattle.layout.specs.Records.{rowFrom, recordFrom}
 use Rattle.places.specs.Places.{south, west, octantFits, placeAt, latitudeFigure, longitudeFigure}
-use Rattle.places.specs.Digits.{suits, lowestDigit}
+use Rattle.places.specs.Column12.{suits, lowestDigit}
 use Rattle.ties.specs.Ties.{placeTie, octantTie, signTie, lastDigit, digitTie, windTie, latestDay, dayTie, tie, firstBroken}
 use Rattle.checking.specs.Check.{column, checkedIn, checked}
 use Rattle.reading.specs.declared.Kind.{Kind}

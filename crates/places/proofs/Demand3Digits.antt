@@ -12,7 +12,7 @@ use Rattle.layout.specs.declared.Edition.{Edition}
 use Rattle.signs.specs.Signed.{sameSigned}
 use Rattle.signs.proofs.Signs.{signed-equal, equal-signed}
 use Rattle.places.specs.Places.{south, west, placeAt}
-use Rattle.places.specs.Digits.{samePlace, keepsTie, mayStand, suits, lowestDigit}
+use Rattle.places.specs.Column12.{samePlace, keepsTie, mayStand, suits, lowestDigit}
 use Rattle.places.proofs.PlaceLaws.{same-sides}
 use Rattle.places.proofs.DigitLaws.{unsuited, suited-at}
 use Rattle.places.proofs.Gives.{both, Gives, gives}

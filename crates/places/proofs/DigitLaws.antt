@@ -15,7 +15,7 @@ use Rattle.layout.specs.Page.{element, page, legalTexts}
 use Rattle.signs.specs.Signed.{signed, sameSigned}
 use Rattle.places.specs.declared.Place.{Place}
 use Rattle.places.specs.Places.{south, west, placeAt}
-use Rattle.places.specs.Digits.{onePlace, samePlace, keepsTie, mayStand, isFirst, crosses, suits, lowestDigit}
+use Rattle.places.specs.Column12.{onePlace, samePlace, keepsTie, mayStand, isFirst, crosses, suits, lowestDigit}
 
 -- which digits may stand in column 12: octants in edition 1, quadrants in the others
 abbrev pub isDigitOf : Edition → ℕ → Bool

@@ -11,7 +11,7 @@ use Rattle.layout.specs.declared.Edition.{Edition}
 use Rattle.layout.specs.declared.Edition.the-variants.{One, Three, Four}
 use Rattle.layout.specs.Page.{element, page}
 use Rattle.places.specs.Places.{south, west, octantFits}
-use Rattle.places.specs.Digits.{keepsTie, mayStand}
+use Rattle.places.specs.Column12.{keepsTie, mayStand}
 
 -- both halves of a test
 pub both : {a b : Bool} → a ≡ true → b ≡ true → (a && b) ≡ true

@@ -15,7 +15,7 @@ use Rattle.layout.specs.declared.Edition.{Edition}
 use Rattle.layout.specs.declared.Edition.the-variants.{One, Three, Four}
 use Rattle.layout.specs.Page.{element, page}
 use Rattle.places.specs.Places.{south, west, octantFits, hundredths, circle, east, placeAt}
-use Rattle.places.specs.Digits.{keepsTie, mayStand, suits, lowestDigit}
+use Rattle.places.specs.Column12.{keepsTie, mayStand, suits, lowestDigit}
 use Rattle.places.specs.Plain.{Plain, digitIn}
 use Rattle.places.proofs.DigitLaws.{off-equator}
 use Rattle.places.proofs.Gives.{both}

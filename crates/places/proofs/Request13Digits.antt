@@ -9,7 +9,7 @@ use borrow.Author.Tests.{eqb-true, eqb-false}
 use lib.Dec.{eqb}
 use Rattle.text.proofs.First.{same-first}
 use Rattle.layout.specs.declared.Edition.{Edition}
-use Rattle.places.specs.Digits.{samePlace, keepsTie, mayStand, suits, lowestDigit}
+use Rattle.places.specs.Column12.{samePlace, keepsTie, mayStand, suits, lowestDigit}
 use Rattle.places.specs.Plain.{Plain}
 use Rattle.places.proofs.PlainLaws.{only-digit}
 use Rattle.places.proofs.Demand3Digits.{same-numbers, digit-found}

@@ -10,7 +10,7 @@ use Rattle.layout.specs.declared.Edition.{Edition}
 use Rattle.layout.specs.declared.Edition.the-variants.{One, Three, Four}
 use Rattle.layout.specs.Page.{element, page}
 use Rattle.places.specs.Places.{south, west, octantFits, placeAt}
-use Rattle.places.specs.Digits.{suits, lowestDigit}
+use Rattle.places.specs.Column12.{suits, lowestDigit}
 
 -- The digit of column 12, latitude and longitude of a record of the edition `from`, and the lowest digits for it in editions 1, 3 and 4.
 record Case : Type 0 where

@@ -1,3 +1,3 @@
 pub mod Places
-pub mod Digits
+pub mod Column12
 pub mod Plain

@@ -10,7 +10,7 @@ use layout::Edition;
 ghost use mathlib.Core.Bool.{true};
 ghost use mathlib.Core.Path.{_≡_};
 ghost use Prim.Native.Nat.{_≤_, _-_};
-ghost use Rattle.places.specs.Digits.{onePlace, samePlace, keepsTie, mayStand, suits, lowestDigit, isFirst, crosses};
+ghost use Rattle.places.specs.Column12.{onePlace, samePlace, keepsTie, mayStand, suits, lowestDigit, isFirst, crosses};
 ghost use Rattle.places.specs.Plain.{Plain, quadrantOf, nearOctant, farOctant, octantOf, digitIn};
 
 // May the digit stand in column 12 of the edition?

@@ -12,7 +12,7 @@ use Rattle.layout.specs.Page.{textOf}
 use Rattle.layout.proofs.Beyond.{last-above}
 use Rattle.layout.proofs.RecordLaws.{begins}
 use Rattle.checking.specs.Acceptable.{Acceptable}
-use Rattle.places.specs.Digits.{lowestDigit, crosses}
+use Rattle.places.specs.Column12.{lowestDigit, crosses}
 use Rattle.recasting.proofs.Request9Places.{standing, digit-there, HasDigit, every-place}
 use Rattle.recasting.specs.Recast.{hemisphere, recastText}
 use Rattle.recasting.proofs.PlaceLaws.{six, chosen, by-tests}

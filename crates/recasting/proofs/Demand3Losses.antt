@@ -29,7 +29,7 @@ use Rattle.layout.proofs.RecordLaws.{shortest, begins, same-record}
 use Rattle.checking.specs.Check.{column}
 use Rattle.checking.specs.Acceptable.{Acceptable}
 use Rattle.checking.proofs.Placed.{first-of}
-use Rattle.places.specs.Digits.{crosses}
+use Rattle.places.specs.Column12.{crosses}
 use Rattle.meanings.specs.Meaning.{senseOf, senseNumber}
 use Rattle.meanings.specs.Kept.{keeps, lostText, lostAt}
 use Rattle.recasting.specs.Recast.{digitOf, recastRecord}

@@ -16,7 +16,7 @@ use Rattle.layout.specs.Editions.{lastOf}
 use Rattle.layout.specs.Page.{textOf, legalTexts, mayBeBlank, legal, isCoordinate, isSign, isTemperature, element, page}
 use Rattle.layout.proofs.Beyond.{text-none}
 use Rattle.places.specs.declared.Place.{Place}
-use Rattle.places.specs.Digits.{crosses}
+use Rattle.places.specs.Column12.{crosses}
 use Rattle.places.proofs.DigitLaws.{alike-places}
 use Rattle.ties.specs.Ties.{there}
 use Rattle.checking.specs.Acceptable.{Acceptable}

@@ -11,7 +11,7 @@ use Rattle.numerals.specs.Numerals.{spelled}
 use Rattle.layout.specs.declared.Edition.{Edition}
 use Rattle.layout.specs.Editions.{lengthOf}
 use Rattle.layout.proofs.RecordLaws.{shortest}
-use Rattle.places.specs.Digits.{isFirst}
+use Rattle.places.specs.Column12.{isFirst}
 use Rattle.blanking.proofs.RowLaws.{first-length, other-length}
 use Rattle.recasting.specs.Recast.{blanks, widened}
 use Rattle.recasting.proofs.WidenLaws.{widened-long}

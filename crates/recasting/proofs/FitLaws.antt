@@ -15,7 +15,7 @@ use Rattle.layout.specs.Page.{widthOf, textOf}
 use Rattle.layout.proofs.Elements.{last-below}
 use Rattle.layout.proofs.RecordLaws.{text-long, same-record}
 use Rattle.checking.specs.Acceptable.{Acceptable}
-use Rattle.places.specs.Digits.{suits}
+use Rattle.places.specs.Column12.{suits}
 use Rattle.places.proofs.Demand3Digits.{digit-found}
 use Rattle.recasting.proofs.Request9Places.{HasDigit}
 use Rattle.meanings.specs.Kept.{lostText, lostAt}

@@ -8,7 +8,7 @@ use Rattle.text.specs.Bytes.{blank, number}
 use Rattle.layout.specs.declared.Edition.{Edition}
 use Rattle.layout.specs.Page.{page, element, startOf, textOf, firstByte}
 use Rattle.layout.proofs.Parts.{one-byte}
-use Rattle.places.specs.Digits.{lowestDigit, crosses}
+use Rattle.places.specs.Column12.{lowestDigit, crosses}
 use Rattle.recasting.specs.Recast.{hemisphere}
 
 -- column 12 is element 6

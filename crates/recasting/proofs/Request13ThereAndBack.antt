@@ -26,7 +26,7 @@ use Rattle.layout.proofs.RecordLaws.{by-number}
 use Rattle.ties.specs.Ties.{tie}
 use Rattle.ties.proofs.Together.{latitude-alike, longitude-alike}
 use Rattle.places.specs.declared.Place.{Place}
-use Rattle.places.specs.Digits.{lowestDigit, crosses}
+use Rattle.places.specs.Column12.{lowestDigit, crosses}
 use Rattle.places.proofs.Request13Digits.{Edge, home-lowest, another-only}
 use Rattle.checking.specs.declared.Answer.the-variants.{Accepted}
 use Rattle.checking.specs.Check.{checked}

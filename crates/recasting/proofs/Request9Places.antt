@@ -12,7 +12,7 @@ use Rattle.layout.specs.declared.Edition.the-variants.{One, Three, Four}
 use Rattle.layout.specs.Page.{textOf, isCoordinate, isTemperature, element, page}
 use Rattle.places.specs.declared.Place.{Place}
 use Rattle.places.specs.Places.{placeAt}
-use Rattle.places.specs.Digits.{keepsTie, mayStand, lowestDigit}
+use Rattle.places.specs.Column12.{keepsTie, mayStand, lowestDigit}
 use Rattle.places.proofs.Demand3Digits.{digit-found, same-numbers}
 use Rattle.places.proofs.PlaceLaws.{with-numbers}
 use Rattle.ties.specs.Ties.{octantTie, tie}

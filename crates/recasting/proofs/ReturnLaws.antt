@@ -19,7 +19,7 @@ use Rattle.layout.proofs.Beyond.{last-above, text-none}
 use Rattle.layout.proofs.Elements.{last-below}
 use Rattle.layout.proofs.Holding.{Holds, empty, holds, in-digits}
 use Rattle.layout.proofs.RecordLaws.{begins, text-long, same-record}
-use Rattle.places.specs.Digits.{keepsTie, mayStand, lowestDigit, crosses}
+use Rattle.places.specs.Column12.{keepsTie, mayStand, lowestDigit, crosses}
 use Rattle.places.proofs.DigitLaws.{isDigitOf, column-texts, digit-stands, crosses-back}
 use Rattle.places.proofs.Demand3Digits.{digit-found}
 use Rattle.places.proofs.Request13Digits.{same-lowest}

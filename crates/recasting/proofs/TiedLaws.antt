@@ -17,7 +17,7 @@ use Rattle.layout.specs.Page.{textOf}
 use Rattle.ties.specs.Ties.{placeTie, octantTie, windTie, tie}
 use Rattle.ties.proofs.Looks.{elementsIn, same-tie, same-in, of-each}
 use Rattle.checking.specs.Acceptable.{Acceptable}
-use Rattle.places.specs.Digits.{crosses}
+use Rattle.places.specs.Column12.{crosses}
 use Rattle.meanings.specs.Kept.{lostAt}
 use Rattle.recasting.proofs.ResultLaws.{result, result-beyond, as-it-was, lost-blank, new-blank}
 use Rattle.recasting.proofs.NeverLaws.{steady, same}

@@ -20,7 +20,7 @@ use Rattle.layout.specs.Page.{textOf}
 use Rattle.checking.specs.declared.Answer.the-variants.{Refused}
 use Rattle.checking.specs.Acceptable.{Acceptable}
 use Rattle.checking.specs.Acceptable as Checking
-use Rattle.places.specs.Digits.{suits, crosses}
+use Rattle.places.specs.Column12.{suits, crosses}
 use Rattle.recasting.specs.declared.Outcome.{Outcome}
 use Rattle.recasting.specs.Recast.{digitOf, done, unrecast}
 use Rattle.meanings.specs.Lost.{Expressible, Lost}

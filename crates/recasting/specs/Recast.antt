@@ -23,7 +23,7 @@ use Rattle.ties.specs.Ties.{there}
 use Rattle.checking.specs.declared.Answer.{Answer}
 use Rattle.checking.specs.declared.Answer.the-variants.{Accepted, Refused}
 use Rattle.checking.specs.Check.{checked}
-use Rattle.places.specs.Digits.{lowestDigit, crosses}
+use Rattle.places.specs.Column12.{lowestDigit, crosses}
 use Rattle.recasting.specs.declared.Outcome.{Outcome}
 use Rattle.meanings.specs.Kept.{lostAt}
 

@@ -12,7 +12,7 @@ ghost use mathlib.Core.Path.{_≡_};
 ghost use Prim.Native.Nat.{ℕ, _+_, _≤_};
 ghost use lib.ListN.{length};
 ghost use Rattle.text.specs.Bytes.{between};
-ghost use Rattle.layout.specs.Editions.{lengthOf, lastOf};
+ghost use Rattle.layout.specs.Editions.{lengthOf, lastOf, longestRecord, lastElement};
 ghost use Rattle.layout.specs.Page.{startOf, textOf, legalText};
 ghost use Rattle.blanking.specs.LostBytes.{blankedText, isFourth, changes, leaves, run, blankedBy, some, codesLost, countryLost, versionLost, flagsLost, laterLost, sharedLost, blanked};
 
@@ -71,7 +71,7 @@ fn blank_run(row: &mut [u8], at: usize, n: usize, low: u8, high: u8)
 
 // Blanks the bytes from low to high of the elements from first to last.
 fn blank(row: &mut [u8], first: usize, last: usize, low: u8, high: u8)
-    requires { ⌜ ((first ≤ last) × (startOf (last + 1) ≤ length (now row))) × ((last ≤ 101) × (low ≤ high)) ⌝ }
+    requires { ⌜ ((first ≤ last) × (startOf (last + 1) ≤ length (now row))) × ((last ≤ lastElement) × (low ≤ high)) ⌝ }
     ensures { λ _. ⌜ now (row .exit) ≡ blanked (some first last low high) (now (row .entry)) ⌝ }
 {
     let at = widths::start_of(first);
@@ -130,7 +130,7 @@ fn blank_flags(row: &mut [u8], back: bool)
 
 // Blanks what is lost of the elements that edition 1 does not have, where the target has them.
 fn blank_later(row: &mut [u8], back: bool)
-    requires { ⌜ 159 ≤ length (now row) ⌝ }
+    requires { ⌜ longestRecord ≤ length (now row) ⌝ }
     ensures { λ _. ⌜ now (row .exit) ≡ blanked (laterLost false back) (now (row .entry)) ⌝ }
 {
     if !back {

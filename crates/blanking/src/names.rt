@@ -12,7 +12,7 @@ ghost use Prim.Native.Nat.{ℕ, _+_, _*_, _^_, _<_, _≤_};
 ghost use lib.ListN.{length};
 ghost use Rattle.text.specs.Bytes.{between};
 ghost use Rattle.element_sets.specs.ElementSets.{bits, setOf};
-ghost use Rattle.layout.specs.Editions.{lengthOf, lastOf};
+ghost use Rattle.layout.specs.Editions.{lengthOf, lastOf, longestRecord};
 ghost use Rattle.layout.specs.Page.{startOf, textOf, firstByte, legalText};
 ghost use Rattle.places.specs.Column12.{isFirst};
 ghost use Rattle.meanings.specs.Kept.{lostAt};
@@ -109,7 +109,7 @@ fn name_flags(line: &[u8], back: bool) -> u64
 
 // Elements 86 to 101 in a target that has them.
 fn name_later(line: &[u8], back: bool) -> u64
-    requires { ⌜ 159 ≤ length (now line) ⌝ }
+    requires { ⌜ longestRecord ≤ length (now line) ⌝ }
     ensures { λ r. ⌜ r ≡ bits (named (laterLost false back) (now (line .entry))) 65 37 ⌝ }
 {
     if !back {
@@ -120,7 +120,7 @@ fn name_later(line: &[u8], back: bool) -> u64
 
 // Elements 86 to 101 in a target that does not have them.
 fn name_filled(line: &[u8]) -> u64
-    requires { ⌜ 159 ≤ length (now line) ⌝ }
+    requires { ⌜ longestRecord ≤ length (now line) ⌝ }
     ensures { λ r. ⌜ r ≡ bits (named (laterLost true false) (now (line .entry))) 65 37 ⌝ }
 {
     moved(name_eight(line, 86, 33, 126), 21) | moved(name_eight(line, 94, 33, 126), 29)

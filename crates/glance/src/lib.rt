@@ -20,7 +20,7 @@ ghost use lib.ListN.{length};
 ghost use Rattle.text.specs.Bytes.{word};
 ghost use Rattle.faults.specs.Faults.{no};
 ghost use Rattle.layout.specs.declared.Named.the-variants.{Known};
-ghost use Rattle.layout.specs.Editions.{editionOf, lengthOf};
+ghost use Rattle.layout.specs.Editions.{editionOf, lengthOf, longestRecord};
 ghost use Rattle.layout.specs.Page.{widthOf, startOf, textOf, firstByte};
 ghost use Rattle.glance.specs.Tests.{inLimit, neither, lastHighest, plusZero, topDigit, halfDigit, needs, octantNear, common};
 ghost use Rattle.glance.specs.Sure.{dates, places, winds, falls, courses, Limits, Codes, Temperature, Temperatures, InEveryYear, Alike, Rest, Sure};
@@ -88,7 +88,7 @@ fn falls_off(line: &[u8]) -> u8
 
 // From edition 3 on: HDG and COG to 360, hh to 199 and not 100, RWD to 360.
 fn courses_off(line: &[u8]) -> u8
-    requires { ⌜ length (now line) ≡ 159 ⌝ }
+    requires { ⌜ length (now line) ≡ longestRecord ⌝ }
     ensures { λ z. ⌜ (z ≡ 0 → Limits courses (now (line .entry))) ⌝ }
 {
     (off(line, 87, 0x333630, 0x303030, 0x303030) | off(line, 88, 0x333630, 0x303030, 0x303030))
@@ -187,7 +187,7 @@ fn alone(b: u8, w: u8) -> u8
 
 // From edition 3 on besides: the quadrant is neither 2 nor 6, and RWS has its iw.
 fn later_off(line: &[u8]) -> u8
-    requires { ⌜ length (now line) ≡ 159 ⌝ }
+    requires { ⌜ length (now line) ≡ longestRecord ⌝ }
     ensures { λ z. ⌜ (z ≡ 0 → Rest Edition.Three (now (line .entry))) ⌝ }
 {
     courses_off(line)

@@ -8,14 +8,9 @@ use lib.Dec.{eqb, leb}
 use lib.ListN.{List·getD-eq-default}
 use Rattle.text.specs.LegalTexts.{among}
 use Rattle.text.proofs.Among.{among-cases}
+use Rattle.text.proofs.Ways.{beq-true}
 use Rattle.text.proofs.Below.{everyBelow, passes-below}
 use Rattle.layout.specs.Page.{Part, text, departure, coordinate, sign, temperature, none, elements, element, page, partNumber, plays, isText, isDeparture, isCoordinate, isSign, isTemperature}
-
-same-test : (x y : Bool) → Bool·beq x y ≡ true → x ≡ y
-same-test true true h = refl
-same-test true false h = let z : _≡_ {A = ℕ} 0 1 = cc in absurd (omega arith)
-same-test false true h = let z : _≡_ {A = ℕ} 0 1 = cc in absurd (omega arith)
-same-test false false h = refl
 
 -- past element 101 there is none, which is a code's
 module _ (p : Part) (q : ℕ → Bool) (other : eqb (partNumber (none .part)) (partNumber p) ≡ false) (past : (e : ℕ) → 101 < e → q e ≡ false)
@@ -28,7 +23,7 @@ module _ (p : Part) (q : ℕ → Bool) (other : eqb (partNumber (none .part)) (p
   numbers e = by (leb e 101) refl
     where
       by : (t : Bool) → leb e 101 ≡ t → plays p e ≡ q e
-      by true h = let l = leb-true e 101 h in same-test _ _ (passes-below 102 (λ e. Bool·beq (plays p e) (q e)) tested e (omega arith))
+      by true h = let l = leb-true e 101 h in beq-true _ _ (passes-below 102 (λ e. Bool·beq (plays p e) (q e)) tested e (omega arith))
       by false h = let l = leb-false e 101 h in beyond e l ∙ sym (past e l)
 
 -- one of four that are no higher than 101 is none past it

@@ -8,6 +8,11 @@ pub mod widths;
 ghost use mathlib.Core.Path.{_≡_};
 ghost use Rattle.layout.specs.Editions.{editionOf, asked, editionNumber, lengthOf, lastOf};
 
+// The most columns and the most elements that records of any edition have.
+pub const LONGEST: usize = 159;
+
+pub const ELEMENTS: usize = 101;
+
 pub enum Edition {
     One,
     Three,
@@ -24,15 +29,15 @@ impl Edition {
     // Each edition has a length of its own, and a last element.
     pub const LENGTH_1: usize = 131;
 
-    pub const LENGTH_3: usize = 159;
+    pub const LENGTH_3: usize = LONGEST;
 
-    pub const LENGTH_4: usize = 159;
+    pub const LENGTH_4: usize = LONGEST;
 
     pub const LAST_1: usize = 85;
 
-    pub const LAST_3: usize = 101;
+    pub const LAST_3: usize = ELEMENTS;
 
-    pub const LAST_4: usize = 101;
+    pub const LAST_4: usize = ELEMENTS;
 
     // The edition that the character in column 111 names.
     pub fn of_digit(b: u8) -> Named

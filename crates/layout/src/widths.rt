@@ -3,9 +3,11 @@
 // A caller names an element and gets its columns, and no start stands anywhere as a number. Where the
 // number of the element stands in the code, the compiler works its start out; where it does not, two
 // rows are looked up.
-use crate::Edition;
+use crate::ELEMENTS;
+use crate::LONGEST;
 ghost use mathlib.Core.Path.{_≡_};
 ghost use Prim.Native.Nat.{_*_, _/_, _-_, _%_, _^_, _≤_};
+ghost use Rattle.layout.specs.Editions.{lastElement};
 ghost use Rattle.layout.specs.Page.{widthOf, startOf};
 ghost use Rattle.layout.specs.Widths.{widthRow};
 
@@ -112,7 +114,7 @@ fn columns_before(row: usize) -> u64
 
 // The widths of the elements of e's row up to its own, which is the last digit.
 fn up_to(e: usize) -> u64
-    requires { ⌜ e ≤ 101 ⌝ }
+    requires { ⌜ e ≤ lastElement ⌝ }
     ensures { λ r. ⌜ r ≡ widthRow (e / 8) / 2 ^ (8 * (7 - e % 8)) ⌝ }
 {
     widths_in(e / 8) >> (8 * (7 - e % 8))
@@ -122,7 +124,7 @@ fn up_to(e: usize) -> u64
 pub fn width_of(e: usize) -> usize
     ensures { λ r. ⌜ r ≡ widthOf e ⌝ }
 {
-    if 101 < e {
+    if ELEMENTS < e {
         return 0;
     }
     (up_to(e) % 256) as usize
@@ -132,8 +134,8 @@ pub fn width_of(e: usize) -> usize
 pub fn start_of(e: usize) -> usize
     ensures { λ r. ⌜ r ≡ startOf e ⌝ }
 {
-    if 101 < e {
-        return Edition::LENGTH_4;
+    if ELEMENTS < e {
+        return LONGEST;
     }
     (columns_before(e / 8) + up_to(e) / 256 % 255) as usize
 }

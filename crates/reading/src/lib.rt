@@ -5,6 +5,7 @@
 // reads as is `itemOf` of specs/Readings.antt.
 use checking::Answer;
 use faults::strays;
+use layout::ELEMENTS;
 use layout::Edition;
 use layout::page;
 use layout::widths::width_of;
@@ -17,7 +18,7 @@ ghost use lib.Dec.{eqb};
 ghost use lib.ListN.{length};
 ghost use Rattle.text.specs.LegalTexts.{among};
 ghost use Rattle.layout.specs.declared.Edition.{Edition};
-ghost use Rattle.layout.specs.Editions.{lengthOf};
+ghost use Rattle.layout.specs.Editions.{lengthOf, lastElement};
 ghost use Rattle.layout.specs.Page.{startOf, widthOf, isText, isDeparture, isSign};
 ghost use Rattle.reading.specs.Readings.{codeOf, plain, below, kindOf, temperature, departure, placeOf, lead, itemOf};
 ghost use Rattle.reading.specs.Answers.{readAfter, readOf};
@@ -47,7 +48,7 @@ pub struct Entry {
 // element 1; or the refusal, and then every entry is missing.
 pub struct Readings {
     pub answer: Answer,
-    pub entries: [Entry; 101],
+    pub entries: [Entry; ELEMENTS],
 }
 
 // Does the element always read as a text?
@@ -253,7 +254,7 @@ const SINGLE_64: u64 = 0x003f_c07f_ffff;
 
 // Is it one of them?
 fn is_single(e: usize) -> bool
-    requires { ⌜ e ≤ 101 ⌝ }
+    requires { ⌜ e ≤ lastElement ⌝ }
     ensures { λ r. ⌜ r ≡ (eqb (widthOf e) 1 && not (eqb e 6 || isSign e) && not (isText e)) ⌝ }
 {
     if e < 64 {
@@ -273,7 +274,7 @@ pub fn read_after(answer: Answer, line: &[u8]) -> Readings
         answer: answer,
         entries: [Entry {
             reading: Reading::Missing,
-        }; 101],
+        }; ELEMENTS],
     };
     match answer {
         Answer::Accepted(edition) => {

@@ -1,6 +1,8 @@
 // What the program readings says of a record, put into a lent buffer.
 use checking::Answer;
+use layout::ELEMENTS;
 use layout::Edition;
+use layout::LONGEST;
 use places::Place;
 use reading::Entry;
 use reading::Kind;
@@ -102,14 +104,14 @@ fn put_reading(out: &mut [u8], at: usize, count: &[u8], e: u64, reading: Reading
 }
 
 // Puts the lines of all 101 elements.
-fn put_readings(out: &mut [u8], at: usize, count: &[u8], entries: [Entry; 101]) -> usize
+fn put_readings(out: &mut [u8], at: usize, count: &[u8], entries: [Entry; ELEMENTS]) -> usize
     requires { ⌜ (at + 11312 ≤ length (now out)) × (length (now count) ≤ 20) ⌝ }
     ensures { λ r. ⌜ Puts (readingLines (now (count .entry)) 1 (readings entries)) at (now (out .entry)) (now (out .exit)) r ⌝ }
     ensures { λ r. ⌜ r ≤ at + 11312 ⌝ }
 {
     let mut end = at;
     let mut k = 0;
-    while k < 101 {
+    while k < ELEMENTS {
         let entry = entries[k];
         let reading = entry.reading;
         k += 1;
@@ -119,7 +121,7 @@ fn put_readings(out: &mut [u8], at: usize, count: &[u8], entries: [Entry; 101]) 
 }
 
 // Spells the count of the record, and puts the lines of all its elements.
-fn put_elements(out: &mut [u8], at: usize, count: u64, entries: [Entry; 101]) -> usize
+fn put_elements(out: &mut [u8], at: usize, count: u64, entries: [Entry; ELEMENTS]) -> usize
     requires { ⌜ at + 11312 ≤ length (now out) ⌝ }
     ensures { λ r. ⌜ Puts (readingLines (decimal count) 1 (readings entries)) at (now (out .entry)) (now (out .exit)) r ⌝ }
     ensures { λ r. ⌜ r ≤ at + 11312 ⌝ }
@@ -147,10 +149,10 @@ fn is_same(a: &[u8], b: &[u8]) -> bool
 }
 
 // Does writing the readings give the record back?
-fn is_written_back(edition: Edition, entries: [Entry; 101], line: &[u8]) -> bool
+fn is_written_back(edition: Edition, entries: [Entry; ELEMENTS], line: &[u8]) -> bool
     ensures { λ r. ⌜ r ≡ writtenBack edition (readings entries) (now (line .entry)) ⌝ }
 {
-    let mut buffer = [0u8; 159];
+    let mut buffer = [0u8; LONGEST];
     let length = edition.length();
     match writing::write(entries, edition.number(), &mut buffer) {
         Verdict::Fine => is_same(&buffer[..length], line),
@@ -177,7 +179,7 @@ fn put_record(
     at: usize,
     count: u64,
     edition: Edition,
-    entries: [Entry; 101],
+    entries: [Entry; ELEMENTS],
     line: &[u8],
 ) -> usize
     requires { ⌜ (at + recordMost ≤ length (now out)) × (length (now line) ≡ lengthOf edition) ⌝ }

@@ -1,6 +1,7 @@
 // The lines of the recast report, put into a lent buffer.
 use element_sets::ElementSet;
 use layout::Edition;
+use layout::LONGEST;
 use recasting::Outcome;
 use refusals::Verdict;
 use report_lines::Said;
@@ -98,7 +99,7 @@ pub fn tell(line: &[u8], edition: Edition, count: u64, out: &mut [u8], at: usize
     requires { ⌜ at + recordMost ≤ length (now out) ⌝ }
     ensures { λ r. ⌜ Says (recastSaid edition count (now (line .entry))) (recastRefused edition (now (line .entry))) at (now (out .entry)) (now (out .exit)) r ⌝ }
 {
-    let mut buffer = [0u8; 159];
+    let mut buffer = [0u8; LONGEST];
     let outcome = recasting::recast(line, edition.number(), &mut buffer);
     put_outcome(out, at, count, outcome)
 }

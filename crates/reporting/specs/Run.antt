@@ -6,6 +6,7 @@ use lib.Dec.{eqb, ltb}
 use lib.ListN.{length}
 use Rattle.layout.specs.declared.Named.{Named}
 use Rattle.layout.specs.declared.Named.the-variants.{Known, Unknown}
+use Rattle.layout.specs.Editions.{longestRecord}
 use Rattle.report_lines.specs.Sentences.{totals}
 use Rattle.recast_lines.specs.Sentences.{heading, notHeld}
 use Rattle.reporting.specs.declared.Job.the-variants.{Recast}
@@ -14,7 +15,7 @@ use Rattle.reporting.specs.declared.Stage.the-variants.{Asking, Closed, 
 use Rattle.reporting.specs.declared.Ledger.{Ledger}
 use Rattle.reporting.specs.Report.{saidFor, refusedFor, askedBy}
 
--- the ledger after the lines that have ended, and the line so far: its first 160 bytes
+-- the ledger after the lines that have ended, and the line so far: its first bytes, as many as are held
 pub record State : Type 0 where
   pub ledger : Ledger
   pub held : List ℕ
@@ -63,9 +64,12 @@ saidIn (Telling job) n line = saidFor job (oneMore n) line
 unfoldable pub saidOf : Ledger → List ℕ → List ℕ
 saidOf l line = saidIn (l .stage) (l .records) line
 
--- the line so far with one byte more: no record is longer than 159 bytes, so the first 160 tell all
+-- the line so far with one byte more: one byte more than any record has tells all
+abbrev pub heldMost : ℕ
+heldMost = longestRecord + 1
+
 abbrev pub kept : List ℕ → ℕ → List ℕ
-kept held b = cond (ltb (length held) 160) (held ++ b ∷ []) held
+kept held b = cond (ltb (length held) heldMost) (held ++ b ∷ []) held
 
 -- one byte
 abbrev pub step : State → ℕ → State

@@ -7,6 +7,7 @@ mod ends;
 
 use ends::line_end;
 use layout::Edition;
+use layout::LONGEST;
 use layout::Named;
 use report_lines::Said;
 ghost use mathlib.Core.Path.{_≡_};
@@ -16,9 +17,8 @@ ghost use lib.ListN.{length, take};
 ghost use Rattle.wording.specs.Puts.{Puts};
 ghost use Rattle.report_lines.specs.Says.{lineMost, recordMost, Says};
 ghost use Rattle.reporting.specs.Report.{saidFor, refusedFor, askedBy};
-ghost use Rattle.reporting.specs.Run.{start, ledger, oneMore, refusedAfter, lastWords, hasRefused};
-ghost use Rattle.reporting.specs.Contracts.{view};
-ghost use Rattle.reporting.specs.Contracts.{Tells, Feeds, Finishes};
+ghost use Rattle.reporting.specs.Run.{start, ledger, oneMore, refusedAfter, lastWords, hasRefused, heldMost};
+ghost use Rattle.reporting.specs.Contracts.{view, Tells, Feeds, Finishes};
 
 // What is told of each record.
 pub enum Job {
@@ -47,11 +47,14 @@ pub struct Ledger {
     pub refused: u64,
 }
 
-// A run between two pieces of its input: the ledger, and the line that has not ended yet, of which no
-// more than 160 bytes are held.
+// How much is held of a line that has not ended: one byte more than any record has tells all.
+pub const HELD: usize = LONGEST + 1;
+
+// A run between two pieces of its input: the ledger, and the line that has not ended yet, as much of it as
+// is held.
 pub struct Run {
     pub ledger: Ledger,
-    pub held: [u8; 160],
+    pub held: [u8; HELD],
     pub length: usize,
 }
 
@@ -92,7 +95,7 @@ pub fn start(stage: Stage) -> Run
     };
     Run {
         ledger: ledger,
-        held: [0u8; 160],
+        held: [0u8; HELD],
         length: 0,
     }
 }
@@ -213,12 +216,12 @@ fn take_line(line: &[u8], ledger: Ledger, out: &mut [u8], at: usize) -> Told
     }
 }
 
-// Keeps more of the line that has not ended, as far as 160 bytes go, and answers how many are held.
+// Keeps more of the line that has not ended, as far as they are held, and answers how many are held.
 fn keep(held: &mut [u8], count: usize, bytes: &[u8]) -> usize
-    requires { ⌜ (count ≤ 160) × (length (now held) ≡ 160) ⌝ }
-    ensures { λ r. ⌜ (r ≤ 160) × (take r (now (held .exit)) ≡ take 160 (take count (now (held .entry)) ++ now (bytes .entry))) ⌝ }
+    requires { ⌜ (count ≤ heldMost) × (length (now held) ≡ heldMost) ⌝ }
+    ensures { λ r. ⌜ (r ≤ heldMost) × (take r (now (held .exit)) ≡ take heldMost (take count (now (held .entry)) ++ now (bytes .entry))) ⌝ }
 {
-    let n = least(160 - count, bytes.len());
+    let n = least(HELD - count, bytes.len());
     let mut i = 0;
     while i < n {
         held[count + i] = bytes[i];
@@ -237,8 +240,8 @@ fn take_ended(
     out: &mut [u8],
     at: usize,
 ) -> Told
-    requires { ⌜ ((count ≤ 160) × (length (now held) ≡ 160)) × (at + recordMost ≤ length (now out)) ⌝ }
-    ensures { λ r. ⌜ Tells ledger (take 160 (take count (now (held .entry)) ++ now (bytes .entry))) at (now (out .entry)) (now (out .exit)) r ⌝ }
+    requires { ⌜ ((count ≤ heldMost) × (length (now held) ≡ heldMost)) × (at + recordMost ≤ length (now out)) ⌝ }
+    ensures { λ r. ⌜ Tells ledger (take heldMost (take count (now (held .entry)) ++ now (bytes .entry))) at (now (out .entry)) (now (out .exit)) r ⌝ }
 {
     if count == 0 {
         return take_line(bytes, ledger, out, at);
@@ -280,7 +283,7 @@ pub fn feed(run: Run, piece: &[u8], out: &mut [u8]) -> Fed
 {
     let mut held = run.held;
     let mut ledger = run.ledger;
-    let mut count = least(run.length, 160);
+    let mut count = least(run.length, HELD);
     let mut at = 0;
     let mut written = 0;
     while at < piece.len() {
@@ -325,7 +328,7 @@ pub fn finish(run: Run, out: &mut [u8]) -> Finished
     }
     let held = run.held;
     let ledger = run.ledger;
-    let count = least(run.length, 160);
+    let count = least(run.length, HELD);
     if count == 0 {
         let refused = has_refused(ledger);
         return Finished {

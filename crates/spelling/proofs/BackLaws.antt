@@ -1,6 +1,6 @@
 -- The columns of an item, spelled from what they read as, are the columns again. Assumes nothing.
 use mathlib.Core.Path.{_≡_, refl, sym, ap, _∙_}
-use mathlib.Core.Bool.{Bool, true, false, cond, not, _&&_, Bool·beq, true≢false}
+use mathlib.Core.Bool.{Bool, true, false, cond, not, _&&_, _||_, Bool·beq}
 use mathlib.Core.Logic.{_⊎_, ⊎-elim}
 use mathlib.Core.List.{List}
 use Prim.Native.Nat.{ℕ, zero, suc, _+_, _-_, _%_, _^_, _<_}
@@ -13,7 +13,9 @@ use lib.ListN.{length}
 use Rattle.text.specs.Bytes.{every, between, either, printable, blank, digits, number, word}
 use Rattle.text.proofs.Among.{either-half}
 use Rattle.text.proofs.Ranges.{least, greatest}
-use Rattle.text.proofs.Ways.{and-first, and-second}
+use Rattle.text.proofs.Below.{passes-below}
+use Rattle.text.proofs.Ways.{and-first, and-second, imply}
+use Rattle.places.proofs.Gives.{both}
 use Rattle.numerals.specs.Numerals.{spelled, spell}
 use Rattle.numerals.proofs.Backs.{digits-back, blanks-back, bytes-back, spelled-beyond}
 use Rattle.layout.specs.declared.Edition.{Edition}
@@ -49,21 +51,20 @@ module _ (ed : Edition) (e : ℕ) (t : List ℕ) (long : length t ≡ widthOf e)
       by false true false p q r = digits-back (widthOf e) t long (and-first _ _ q)
       by false false z p q r = bytes-back (widthOf e) t long prints
 
+small-sign : (n : ℕ) → either 0 2 5 7 n ≡ true → n < 8
+small-sign n p =
+    ⊎-elim (λ a. let l = greatest 0 2 n a in omega arith) (λ a. let l = greatest 5 7 n a in omega arith) (either-half (between 0 2 n) (between 5 7 n) p)
+
 -- the sign that is written is the sign that was read: 1 and 6 stand with no zero
 digit-kept : (n m : ℕ) → either 0 2 5 7 n ≡ true → not (Ties.minus n && eqb m 0) ≡ true → signDigit (negative (signed (below n) m)) (kindOf n) ≡ n
-digit-kept zero m p z = refl
-digit-kept (suc zero) zero p z = absurd (true≢false (sym z))
-digit-kept (suc zero) (suc m) p z = refl
-digit-kept (suc (suc zero)) m p z = refl
-digit-kept (suc (suc (suc zero))) m p z = absurd (true≢false (sym p))
-digit-kept (suc (suc (suc (suc zero)))) m p z = absurd (true≢false (sym p))
-digit-kept (suc (suc (suc (suc (suc zero))))) m p z = refl
-digit-kept (suc (suc (suc (suc (suc (suc zero)))))) zero p z = absurd (true≢false (sym z))
-digit-kept (suc (suc (suc (suc (suc (suc zero)))))) (suc m) p z = refl
-digit-kept (suc (suc (suc (suc (suc (suc (suc zero))))))) m p z = refl
-digit-kept (suc (suc (suc (suc (suc (suc (suc (suc n)))))))) m p z =
-    let k : ℕ = suc (suc (suc (suc (suc (suc (suc (suc n))))))) in
-    absurd (⊎-elim (λ a. let l = greatest 0 2 k a in omega arith) (λ a. let l = greatest 5 7 k a in omega arith) (either-half (between 0 2 k) (between 5 7 k) p))
+digit-kept n zero p z =
+    eqb-true _ _
+    (imply (either 0 2 5 7 n && not (Ties.minus n && true)) _
+    (passes-below 8 (λ k. not (either 0 2 5 7 k && not (Ties.minus k && true)) || eqb (signDigit (negative (signed (below k) 0)) (kindOf k)) k) refl n (small-sign n p))
+    (both p z))
+digit-kept n (suc m) p z =
+    eqb-true _ _
+    (imply (either 0 2 5 7 n) _ (passes-below 8 (λ k. not (either 0 2 5 7 k) || eqb (signDigit (negative (signed (below k) (suc m))) (kindOf k)) k) refl n (small-sign n p)) p)
 
 -- a sign and its temperature
 module _ (ed : Edition) (s v : List ℕ) (tied : signTie s v ≡ true) where

@@ -4,6 +4,7 @@
 // sign and of its temperature, a place in those of its digit, latitude and longitude. It is spelled as well
 // as it can be, whatever the reading; whether the text is legal and reads as the reading is asked
 // afterwards, by comparing the two readings part by part.
+use layout::ELEMENTS;
 use layout::Edition;
 use layout::widths;
 use numerals::Numeral;
@@ -15,6 +16,7 @@ ghost use mathlib.Core.Path.{_≡_};
 ghost use mathlib.Core.Bool.{cond};
 ghost use Prim.Native.Nat.{_≤_, _<_, _+_, _^_};
 ghost use lib.ListN.{length};
+ghost use Rattle.layout.specs.Editions.{longestRecord, lastElement};
 ghost use Rattle.layout.specs.Page.{isTemperature};
 ghost use Rattle.reading.specs.Answers.{readings};
 ghost use Rattle.spelling.specs.Spelled.{signDigit, amountNumeral, placeNumeral, numeralFor, rowFor};
@@ -183,13 +185,13 @@ fn numeral_for(edition: Edition, e: usize, reading: Reading) -> Numeral
 }
 
 // Spells every reading into its element's columns, all 101 elements.
-pub fn put_all(edition: Edition, entries: [Entry; 101], row: &mut [u8])
-    requires { ⌜ length (now row) ≡ 159 ⌝ }
-    ensures { λ _. ⌜ now (row .exit) ≡ rowFor edition (readings entries) 1 101 ⌝ }
+pub fn put_all(edition: Edition, entries: [Entry; ELEMENTS], row: &mut [u8])
+    requires { ⌜ length (now row) ≡ longestRecord ⌝ }
+    ensures { λ _. ⌜ now (row .exit) ≡ rowFor edition (readings entries) 1 lastElement ⌝ }
 {
     let mut at = 0;
     let mut e = 1;
-    while e <= 101 {
+    while e <= ELEMENTS {
         let width = widths::width_of(e);
         let k = reading::lead_of(e) - 1;
         let entry = entries[k];

@@ -7,6 +7,7 @@
 // 2 iced measured, 3 iced computed) or the longitude; the digit of column 12. And beside them one number
 // with a sign: the amount or the latitude. What a case does not use is 0.
 use checking::Answer;
+use layout::ELEMENTS;
 use places::Place;
 use reading::Entry;
 use reading::Kind;
@@ -15,16 +16,20 @@ use reading::Readings;
 ghost use mathlib.Core.Path.{_≡_};
 ghost use mathlib.Core.Bool.{_&&_};
 ghost use mathlib.Core.List.{_++_};
-ghost use Prim.Native.Nat.{_≤_};
+ghost use Prim.Native.Nat.{_*_, _≤_};
 ghost use lib.Dec.{leb};
 ghost use lib.IntN.{pos};
 ghost use lib.ListN.{length, getD, drop};
+ghost use Rattle.layout.specs.Editions.{lastElement};
 ghost use Rattle.refusals.specs.Verdicts.{verdictNumber, verdictPlace};
 ghost use Rattle.refusals.specs.Lent.{verdictIn, leftBy};
 ghost use Rattle.checking.specs.Check.{checked, answerVerdict, callSignOf};
 ghost use Rattle.reading.specs.Answers.{readOf, readings};
 ghost use Rattle.writing.specs.Written.{written};
 ghost use Rattle.trial.specs.Packed.{kindFrom, readingFrom, readingAt, entriesIn, packed, numbersOf, amountsOf, editionIn, room, laidIn, shownIn};
+
+// Four numbers for each element.
+const NUMBERS: usize = 4 * ELEMENTS;
 
 // The numbers of a reading, the one with a sign last.
 pub struct Packed {
@@ -80,12 +85,12 @@ fn pack(reading: Reading) -> Packed
 
 // Puts the numbers of all 101 readings at the front of what is lent.
 fn put_all(all: Readings, numbers: &mut [u64], amounts: &mut [i64])
-    requires { ⌜ (404 ≤ length (now numbers)) × (101 ≤ length (now amounts)) ⌝ }
-    ensures { λ _. ⌜ now (numbers .exit) ≡ numbersOf (all .entries) ++ drop 404 (now (numbers .entry)) ⌝ }
-    ensures { λ _. ⌜ now (amounts .exit) ≡ amountsOf (all .entries) ++ drop 101 (now (amounts .entry)) ⌝ }
+    requires { ⌜ (4 * lastElement ≤ length (now numbers)) × (lastElement ≤ length (now amounts)) ⌝ }
+    ensures { λ _. ⌜ now (numbers .exit) ≡ numbersOf (all .entries) ++ drop (4 * lastElement) (now (numbers .entry)) ⌝ }
+    ensures { λ _. ⌜ now (amounts .exit) ≡ amountsOf (all .entries) ++ drop lastElement (now (amounts .entry)) ⌝ }
 {
     let mut k = 0;
-    while k < 101 {
+    while k < ELEMENTS {
         let entry = all.entries[k];
         let reading = entry.reading;
         let said = pack(reading);
@@ -104,7 +109,7 @@ fn put_all(all: Readings, numbers: &mut [u64], amounts: &mut [i64])
 fn has_room(numbers: &[u64], amounts: &[i64]) -> bool
     ensures { λ r. ⌜ r ≡ room (now (numbers .entry)) (now (amounts .entry)) ⌝ }
 {
-    404 <= numbers.len() && 101 <= amounts.len()
+    NUMBERS <= numbers.len() && ELEMENTS <= amounts.len()
 }
 
 // The number of an accepted record's edition, 0 where it is refused.
@@ -224,14 +229,14 @@ fn reading_at(numbers: &[u64], amounts: &[i64], k: usize) -> Reading
 }
 
 // The entries of all 101 elements.
-fn entries_of(numbers: &[u64], amounts: &[i64]) -> [Entry; 101]
+fn entries_of(numbers: &[u64], amounts: &[i64]) -> [Entry; ELEMENTS]
     ensures { λ r. ⌜ r ≡ entriesIn (now (numbers .entry)) (now (amounts .entry)) ⌝ }
 {
     let mut entries = [Entry {
         reading: Reading::Missing,
-    }; 101];
+    }; ELEMENTS];
     let mut k = 0;
-    while k < 101 {
+    while k < ELEMENTS {
         entries[k] = Entry {
             reading: reading_at(numbers, amounts, k),
         };

@@ -5,7 +5,9 @@
 // refused the whole, whether its text is legal. So what is written reads back, and a reading that no legal
 // text gives is refused whatever it is.
 use checking::Answer;
+use layout::ELEMENTS;
 use layout::Edition;
+use layout::LONGEST;
 use layout::Named;
 use layout::page;
 use reading::Entry;
@@ -17,7 +19,7 @@ ghost use mathlib.Core.Bool.{true, _&&_};
 ghost use lib.ListN.{length};
 ghost use Rattle.text.specs.First.{firstOf};
 ghost use Rattle.refusals.specs.Lent.{verdictOf, Answers};
-ghost use Rattle.layout.specs.Editions.{lengthOf};
+ghost use Rattle.layout.specs.Editions.{lengthOf, lastElement};
 ghost use Rattle.layout.specs.Page.{legal};
 ghost use Rattle.checking.specs.Check.{checked};
 ghost use Rattle.reading.specs.Answers.{readings};
@@ -61,14 +63,14 @@ fn is_written(
 }
 
 // The lowest element that is not written as it was given, or 0.
-fn first_unwritten(edition: Edition, entries: [Entry; 101], text: &[u8]) -> usize
+fn first_unwritten(edition: Edition, entries: [Entry; ELEMENTS], text: &[u8]) -> usize
     requires { ⌜ length (now text) ≡ lengthOf edition ⌝ }
-    ensures { λ r. ⌜ r ≡ firstOf 101 (writes edition (readings entries) (now (text .entry))) ⌝ }
+    ensures { λ r. ⌜ r ≡ firstOf lastElement (writes edition (readings entries) (now (text .entry))) ⌝ }
 {
     let back = reading::read_after(Answer::Accepted(edition), text);
     let is_known = is_accepted(edition, text);
     let mut e = 1;
-    while e <= 101 {
+    while e <= ELEMENTS {
         let k = e - 1;
         let there = back.entries[k];
         let read = there.reading;
@@ -83,11 +85,11 @@ fn first_unwritten(edition: Edition, entries: [Entry; 101], text: &[u8]) -> usiz
 }
 
 // Writes a record of an edition that is held.
-fn write_in(edition: Edition, entries: [Entry; 101], buffer: &mut [u8]) -> Verdict
+fn write_in(edition: Edition, entries: [Entry; ELEMENTS], buffer: &mut [u8]) -> Verdict
     ensures { λ r. ⌜ Answers verdictOf (writtenIn edition (readings entries)) (now (buffer .entry)) (now (buffer .exit)) r ⌝ }
 {
     let length = edition.length();
-    let mut row = [32u8; 159];
+    let mut row = [32u8; LONGEST];
     spelling::put_all(edition, entries, &mut row);
     let e = first_unwritten(edition, entries, &row[..length]);
     if e != 0 {
@@ -106,7 +108,7 @@ fn write_in(edition: Edition, entries: [Entry; 101], buffer: &mut [u8]) -> Verdi
 
 // Writes a record from 101 entries, as `reading::read` answers them: any readings, any edition number, any
 // buffer. Success writes the first 131 or 159 bytes; a refusal writes none.
-pub fn write(entries: [Entry; 101], edition: u64, buffer: &mut [u8]) -> Verdict
+pub fn write(entries: [Entry; ELEMENTS], edition: u64, buffer: &mut [u8]) -> Verdict
     ensures { λ r. ⌜ Answers verdictOf (written (readings entries) edition) (now (buffer .entry)) (now (buffer .exit)) r ⌝ }
 {
     match Edition::of_number(edition) {

@@ -59,9 +59,6 @@ begins ed e l h = omega (arith, ends ed e h, some-column e l (omega (arith, last
 
 -- so a line that is long enough has its columns, and the first of them
 module _ (ed : Edition) (xs : List ℕ) (long : lengthOf ed ≤ length xs) (e : ℕ) where
-  pub has-text : e ≤ lastOf ed → startOf e + widthOf e ≤ length xs
-  has-text h = omega (arith, ends ed e h)
-
   pub has-first : 1 ≤ e → e ≤ lastOf ed → startOf e < length xs
   has-first l h = omega (arith, begins ed e l h)
 

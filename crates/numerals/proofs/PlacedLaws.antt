@@ -42,8 +42,3 @@ placed-twice at t u before h =
     drop-drop (length u) (at + length t) before ∙
     ap (λ (k : ℕ). drop k before) both in
     rw (front, back) (simp append-assoc)
-
--- the same as two calls say it: the second goes on from the place and the bytes that the first left
-pub placed-next : (at next : ℕ) (t u before mid after : List ℕ) → at + length t + length u ≤ length before →
-    (mid ≡ placed at t before) × (next ≡ at + length t) → after ≡ placed next u mid → after ≡ placed at (t ++ u) before
-placed-next at next t u before mid after h first second = second ∙ rw (first .0, first .1) (placed-twice at t u before h)

@@ -9,9 +9,6 @@ module _ (x p : Bool) (e : x ≡ p) where
   pub or-goes-on : (y q : Bool) → x ≡ false → y ≡ q → y ≡ (p || q)
   or-goes-on y q h f = rw (← e, h) f
 
-  pub and-fails : (q : Bool) → x ≡ false → false ≡ (p && q)
-  and-fails q h = rw (← e, h)
-
   pub and-stops : (q : Bool) → x ≡ false → x ≡ (p && q)
   and-stops q h = rw (← e, h)
 

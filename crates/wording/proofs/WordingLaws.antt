@@ -54,15 +54,7 @@ module _ (k n : ℕ) where
   pub more-long : 10 ≤ n → length (decimalFrom (suc k) n) ≡ suc (length (decimalFrom k (n / 10)))
   more-long h = ap length (more-digits h) ∙ length-append (decimalFrom k (n / 10)) _ ∙ add-one _
 
--- every number has a digit, and none has more than were asked for
-pub decimal-some : (n : ℕ) → 1 ≤ length (decimal n)
-unfolding decimal
-decimal-some n = by (ltb n 10) refl
-  where
-    by : (x : Bool) → ltb n 10 ≡ x → 1 ≤ length (decimalFrom 20 n)
-    by true e = omega (arith, one-long 19 n (ltb-true n 10 e))
-    by false e = omega (arith, more-long 19 n (ltb-false n 10 e))
-
+-- none has more digits than were asked for
 short-from : (k n : ℕ) → length (decimalFrom k n) ≤ k
 unfolding decimalFrom
 short-from zero n = omega arith

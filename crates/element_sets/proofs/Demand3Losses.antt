@@ -17,7 +17,8 @@ use native.Mathlib.Nat.{add-comm}
 use native.Mathlib.Omega.{arith}
 use lib.ListN.{length, length-append}
 use Rattle.element_sets.specs.declared.ElementSet.{ElementSet}
-use Rattle.element_sets.specs.ElementSets.{passing, bits, elementSet, noElements, listOf, setOf, hasBit, hasElement, countOf, lowestOf, member, first, Rising}
+use Rattle.element_sets.specs.ElementSets.{passing, bits, elementSet, noElements, listOf, setOf, hasBit, hasElement, countOf, lowestOf, first, Rising}
+use Rattle.text.specs.LegalTexts.{member}
 use Rattle.element_sets.proofs.Words.{has-bit, has-no-bit, word-ones, word-first, word-none, word-some}
 use Rattle.element_sets.proofs.Listed.{none-outside, listed, elements-split, elements-rise, same-word, same-elements, no-word, no-elements}
 use Rattle.element_sets.proofs.Ways.{up-to-or-past, has-zero, has-low, has-high, has-past, lowest-low, lowest-high, lowest-none}

@@ -8,7 +8,8 @@ use Prim.Native.Nat.{ℕ, zero, suc, _+_, _*_, _<_, _≤_}
 use native.Mathlib.Nat.{add-suc, suc-add, add-zero, zero-add, le-of-suc-le-suc}
 use native.Mathlib.Omega.{arith}
 use borrow.Author.Tests.{eq-eqb, ne-eqb, lt-ltb}
-use Rattle.element_sets.specs.ElementSets.{bit, passing, bits, member, risesAbove}
+use Rattle.element_sets.specs.ElementSets.{bit, passing, bits, risesAbove}
+use Rattle.text.specs.LegalTexts.{member}
 
 -- of the numbers that are not among the n from k on none is listed
 pub none-outside : (f : ℕ → Bool) (e k n : ℕ) → (e < k) ⊎ (k + n ≤ e) → member e (passing f k n) ≡ false

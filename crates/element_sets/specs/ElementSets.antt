@@ -3,7 +3,7 @@
 use mathlib.Core.Path.{_≡_}
 use Prim.Native.Nat.{ℕ, zero, suc, _+_, _-_, _*_, _/_, _%_, _^_}
 use mathlib.Core.List.{List, [], _∷_}
-use mathlib.Core.Bool.{Bool, true, false, _&&_, _||_, cond}
+use mathlib.Core.Bool.{Bool, true, false, _&&_, cond}
 use lib.Dec.{eqb, leb, ltb}
 use lib.Bits.{bitOr}
 use lib.Count.{ones, trailingZeros}
@@ -64,11 +64,7 @@ countOf s = ones (s .low) + ones (s .high)
 unfoldable pub lowestOf : ElementSet → ℕ
 lowestOf s = cond (eqb (s .low) 0) (cond (eqb (s .high) 0) 0 (trailingZeros 64 (s .high) + 65)) (trailingZeros 64 (s .low) + 1)
 
--- whether a number is in a list, and the first of a list, 0 where it is empty
-unfoldable pub member : ℕ → List ℕ → Bool
-member e [] = false
-member e (x ∷ xs) = eqb e x || member e xs
-
+-- the first of a list, 0 where it is empty
 abbrev pub first : List ℕ → ℕ
 first [] = 0
 first (x ∷ xs) = x

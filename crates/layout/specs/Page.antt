@@ -1,5 +1,5 @@
--- The layout page: for each element, in order, how many columns it has and what may be written there in the editions 1, 3 and 4, as document 01
--- lists it under 'Legal texts'. Where an element starts is worked out from the widths; no other list says it. Assumes nothing.
+-- The layout page: for each element, in order, how many columns it has, what may be written there in the editions 1, 3 and 4, as document 01
+-- lists it under 'Legal texts', and its part in a reading. Where an element starts is worked out from the widths; no other list says it. Assumes nothing.
 use Prim.Native.Nat.{ℕ, _+_}
 use mathlib.Core.List.{List, [], _∷_}
 use mathlib.Core.Bool.{Bool, not, _&&_, _||_}

@@ -19,7 +19,7 @@ ghost use lib.ListN.{length};
 ghost use Rattle.text.specs.LegalTexts.{among};
 ghost use Rattle.layout.specs.declared.Edition.{Edition};
 ghost use Rattle.layout.specs.Editions.{lengthOf, lastElement};
-ghost use Rattle.layout.specs.Page.{startOf, widthOf, isText, isDeparture, isSign};
+ghost use Rattle.layout.specs.Page.{startOf, widthOf, isText, isDeparture, isSign, isTemperature};
 ghost use Rattle.reading.specs.Readings.{codeOf, plain, below, kindOf, temperature, departure, placeOf, lead, itemOf};
 ghost use Rattle.reading.specs.Answers.{readAfter, readOf};
 
@@ -207,6 +207,19 @@ pub fn is_sign(e: usize) -> bool
         18 => true,
         28 => true,
         50 => true,
+        _ => false,
+    }
+}
+
+// Is it a temperature, whose sign stands before it?
+pub fn is_temperature(e: usize) -> bool
+    ensures { λ r. ⌜ r ≡ isTemperature e ⌝ }
+{
+    match e {
+        17 => true,
+        19 => true,
+        29 => true,
+        51 => true,
         _ => false,
     }
 }

@@ -12,7 +12,8 @@ use lib.ListN.{length}
 use Rattle.text.specs.Bytes.{every, blank}
 use Rattle.text.specs.LegalTexts.{among, allows}
 use Rattle.text.proofs.Among.{either-half, among-cases}
-use Rattle.element_sets.specs.ElementSets.{noElements, setOf, listOf, member, hasElement, countOf, lowestOf, first, Rising}
+use Rattle.element_sets.specs.ElementSets.{noElements, setOf, listOf, hasElement, countOf, lowestOf, first, Rising}
+use Rattle.text.specs.LegalTexts.{member}
 use Rattle.element_sets.specs.declared.ElementSet.{ElementSet}
 use Rattle.element_sets.proofs.Demand3Losses.{listed-exactly, not-listed, test-is-membership, rising, ones-are-length, lowest-is-head, empty-set, empty-list}
 use Rattle.layout.specs.declared.Edition.{Edition}

@@ -17,7 +17,6 @@ ghost use mathlib.Core.Bool.{cond};
 ghost use Prim.Native.Nat.{_≤_, _<_, _+_, _^_};
 ghost use lib.ListN.{length};
 ghost use Rattle.layout.specs.Editions.{longestRecord, lastElement};
-ghost use Rattle.layout.specs.Page.{isTemperature};
 ghost use Rattle.reading.specs.Answers.{readings};
 ghost use Rattle.spelling.specs.Spelled.{signDigit, amountNumeral, placeNumeral, numeralFor, rowFor};
 ghost use Rattle.spelling.specs.Same.{kindNumber, partsOf, same};
@@ -127,19 +126,6 @@ fn departure_number(below: bool, n: u64) -> u64
     if below { n + 100 } else { n }
 }
 
-// Is it a temperature, whose sign stands before it?
-fn is_value(e: usize) -> bool
-    ensures { λ r. ⌜ r ≡ isTemperature e ⌝ }
-{
-    match e {
-        17 => true,
-        19 => true,
-        29 => true,
-        51 => true,
-        _ => false,
-    }
-}
-
 // What is written for an amount in the columns of element e.
 fn amount_numeral(e: usize, a: i64, kind: Kind) -> Numeral
     ensures { λ r. ⌜ r ≡ amountNumeral e a kind ⌝ }
@@ -149,7 +135,7 @@ fn amount_numeral(e: usize, a: i64, kind: Kind) -> Numeral
     if reading::is_sign(e) {
         return Numeral::digits(sign_digit(below, kind));
     }
-    if is_value(e) {
+    if reading::is_temperature(e) {
         return Numeral::digits(n);
     }
     if e == 91 {

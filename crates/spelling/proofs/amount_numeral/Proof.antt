@@ -26,23 +26,23 @@ returns-2 c =
     let is-sign = c .before .before .before .before in
     let magnitude = is-sign .before in
     let fits = magnitude .before .before in
-    c .digits2 .ensures ∙ ap inDigits ((magnitude .magnitude .ensures .0) ∙ ap natAbs (itself _ (fits .fits .a))) ∙ sym (amount-value _ _ _ (sym (is-sign .is-sign .ensures) ∙ (c .before .before .before .if1 .left)) (sym (c .before .before .is-value .ensures) ∙ (c .before .if2 .taken)))
+    c .digits2 .ensures ∙ ap inDigits ((magnitude .magnitude .ensures .0) ∙ ap natAbs (itself _ (fits .fits .a))) ∙ sym (amount-value _ _ _ (sym (is-sign .is-sign .ensures) ∙ (c .before .before .before .if1 .left)) (sym (c .before .before .is-temperature .ensures) ∙ (c .before .if2 .taken)))
 
 returns-3 : tie.Need-returns-3
 returns-3 c =
-    let is-value = c .before .before .before .before in
-    let tested = is-value .before in
+    let is-temperature = c .before .before .before .before in
+    let tested = is-temperature .before in
     let is-sign = tested .before in
     let magnitude = is-sign .before in
     let is-negative = magnitude .before in
     let fits = is-negative .before in
-    c .digits3 .ensures ∙ ap inDigits ((c .before .departure-number .ensures) ∙ departure-of ((is-negative .is-negative .ensures) ∙ ap negative (itself _ (fits .fits .a))) ((magnitude .magnitude .ensures .0) ∙ ap natAbs (itself _ (fits .fits .a)))) ∙ sym (amount-departure _ _ _ (sym (is-sign .is-sign .ensures) ∙ (tested .if1 .left)) (sym (is-value .is-value .ensures) ∙ (c .before .before .before .if2 .left)) (c .before .before .if3 .taken))
+    c .digits3 .ensures ∙ ap inDigits ((c .before .departure-number .ensures) ∙ departure-of ((is-negative .is-negative .ensures) ∙ ap negative (itself _ (fits .fits .a))) ((magnitude .magnitude .ensures .0) ∙ ap natAbs (itself _ (fits .fits .a)))) ∙ sym (amount-departure _ _ _ (sym (is-sign .is-sign .ensures) ∙ (tested .if1 .left)) (sym (is-temperature .is-temperature .ensures) ∙ (c .before .before .before .if2 .left)) (c .before .before .if3 .taken))
 
 returns-4 : tie.Need-returns-4
 returns-4 c =
     let tested = c .before .before .before .before in
     let is-sign = tested .before in
-    c .blanks .ensures ∙ sym (amount-none _ _ _ (sym (is-sign .is-sign .ensures) ∙ (tested .if1 .left)) (sym (c .before .before .before .is-value .ensures) ∙ (c .before .before .if2 .left)) (c .before .if3 .left))
+    c .blanks .ensures ∙ sym (amount-none _ _ _ (sym (is-sign .is-sign .ensures) ∙ (tested .if1 .left)) (sym (c .before .before .before .is-temperature .ensures) ∙ (c .before .before .if2 .left)) (c .before .if3 .left))
 
 pub amount-numeral-spec : {M : Type 1} → statement M
 amount-numeral-spec =

@@ -1,10 +1,10 @@
--- `spelling::is_value` meets its contract. Assumes nothing.
+-- `reading::is_temperature` meets its contract. Assumes nothing.
 use mathlib.Core.Path.{sym, _∙_}
 use borrow.Author.Tests.{ne-eqb}
 use Rattle.layout.specs.Page.{element, page, isTemperature}
 use Rattle.layout.proofs.PartLaws.{temperature-is}
-use Rattle.spelling.proofs.is_value.Statement.{statement}
-use Rattle.spelling.proofs.is_value.Tie as tie
+use Rattle.reading.proofs.is_temperature.Statement.{statement}
+use Rattle.reading.proofs.is_temperature.Tie as tie
 
 returns : tie.Need-returns
 unfolding isTemperature element page
@@ -25,5 +25,5 @@ returns-4 c = rw (c .match .keys4)
 returns-5 : tie.Need-returns-5
 returns-5 c = sym (temperature-is _ ∙ rw (ne-eqb _ _ (c .match .rest .0 .0 .0 .1), ne-eqb _ _ (c .match .rest .0 .0 .1), ne-eqb _ _ (c .match .rest .0 .1), ne-eqb _ _ (c .match .rest .1)))
 
-pub is-value-spec : {M : Type 1} → statement M
-is-value-spec = tie.close (tie.spec returns returns-2 returns-3 returns-4 returns-5)
+pub is-temperature-spec : {M : Type 1} → statement M
+is-temperature-spec = tie.close (tie.spec returns returns-2 returns-3 returns-4 returns-5)

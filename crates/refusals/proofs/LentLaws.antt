@@ -1,5 +1,5 @@
 -- What a call with a lent buffer answers and leaves, by what it comes to. Assumes nothing.
-use mathlib.Core.Path.{_≡_, refl, _∙_}
+use mathlib.Core.Path.{_≡_, refl, ap, _∙_}
 use mathlib.Core.Bool.{Bool, true, false}
 use mathlib.Core.List.{List}
 use Prim.Native.Nat.{ℕ, _<_, _≤_}
@@ -21,6 +21,16 @@ module _ {A : Type 0} (a : A) (bytes : List ℕ) (room : ℕ) where
   pub lacks-room : room < length bytes → inRoom room (writing a bytes) ≡ refusing Room
   unfolding inRoom
   lacks-room h = rw (lt-leb (length bytes) room h)
+
+-- a verdict that is not for room was given by the call's own rules
+pub by-its-rules : {A : Type 0} (room : ℕ) (r : Refusal) → (r ≡ Room → ⊥) → (call : Call A) → verdictIn room call ≡ Refused r → call ≡ refusing r
+unfolding inRoom
+by-its-rules room r other (refusing s) f = let same : s ≡ r = cc in ap refusing same
+by-its-rules room r other (writing a bytes) f = absurd (by (leb (length bytes) room) f)
+  where
+    by : (t : Bool) → verdictOf (unless refusing t Room (writing a bytes)) ≡ Refused r → ⊥
+    by true g = let z : _≡_ {A = ℕ} 0 1 = cc in omega arith
+    by false g = let same : r ≡ Room = cc in other same
 
 -- a call that is fine has written its bytes, and there was room for them
 pub record Wrote {A : Type 0} (call : Call A) (room : ℕ) : Type 0 where

@@ -1,4 +1,4 @@
--- Demand 1: numbers are taken whole. A number past the columns is refused with 6 and does not wrap to one that fits; antt computes what writing comes to. Assumes nothing.
+-- Demand 1: numbers are taken whole. A number past the columns is refused with 6 and does not wrap to one that fits; antt computes the verdict. Assumes nothing.
 use mathlib.Core.Path.{_≡_, refl}
 use Prim.Native.Nat.{_-_}
 use lib.IntN.{negsuc}
@@ -8,7 +8,8 @@ use Rattle.text.specs.LegalTexts.{allows}
 use Rattle.numerals.specs.Numerals.{spelled}
 use Rattle.layout.specs.declared.Edition.the-variants.{Four}
 use Rattle.refusals.specs.declared.Refusal.the-variants.{Illegal}
-use Rattle.refusals.specs.Lent.{refusing}
+use Rattle.refusals.specs.declared.Verdict.the-variants.{Refused}
+use Rattle.refusals.specs.Lent.{inRoom, verdictIn}
 use Rattle.layout.specs.Page.{element, page, columns, startOf, textOf, legal, isText, isDeparture, isCoordinate, isSign, isTemperature}
 use Rattle.layout.specs.Records.{rowFrom, recordFrom}
 use Rattle.places.specs.Places.{south, west, octantFits, placeAt, latitudeFigure, longitudeFigure}
@@ -23,19 +24,19 @@ use Rattle.writing.specs.Written.{writes, writtenIn}
 use Rattle.writing.proofs.Demand2TiesBroken.{missing, said, of-edition}
 
 -- 2 to the 32 and 3 is no month, though its last 32 bits are 3
-pub whole-code : writtenIn Four (said 3 (Code 4294967299) (of-edition 3 4)) ≡ refusing (Illegal 3)
-unfolding writtenIn missing said recordOf recordFrom rowFrom spelled numeralFor amountNumeral placeNumeral writes legal allows every valueFrom textOf startOf columns element page tie firstFrom itemOf plain temperature placeOf departure south west placeAt latitudeFigure longitudeFigure same partsOf octantTie octantFits placeTie signTie digitTie lastDigit windTie isText isDeparture isCoordinate isSign isTemperature
+pub whole-code : verdictIn 159 (writtenIn Four (said 3 (Code 4294967299) (of-edition 3 4))) ≡ Refused (Illegal 3)
+unfolding inRoom writtenIn missing said recordOf recordFrom rowFrom spelled numeralFor amountNumeral placeNumeral writes legal allows every valueFrom textOf startOf columns element page tie firstFrom itemOf plain temperature placeOf departure south west placeAt latitudeFigure longitudeFigure same partsOf octantTie octantFits placeTie signTie digitTie lastDigit windTie isText isDeparture isCoordinate isSign isTemperature
 whole-code = refl
 
 -- the lowest amount there is
 abbrev pub farthest : Reading
 farthest = Amount (negsuc 9223372036854775807) Measured
 
-pub whole-amount : writtenIn Four (said 16 farthest (said 17 farthest (of-edition 3 4))) ≡ refusing (Illegal 16)
-unfolding writtenIn missing said recordOf recordFrom rowFrom spelled numeralFor amountNumeral placeNumeral writes legal allows every valueFrom textOf startOf columns element page tie firstFrom itemOf plain temperature placeOf departure south west placeAt latitudeFigure longitudeFigure same partsOf octantTie octantFits placeTie signTie digitTie lastDigit windTie isText isDeparture isCoordinate isSign isTemperature
+pub whole-amount : verdictIn 159 (writtenIn Four (said 16 farthest (said 17 farthest (of-edition 3 4)))) ≡ Refused (Illegal 16)
+unfolding inRoom writtenIn missing said recordOf recordFrom rowFrom spelled numeralFor amountNumeral placeNumeral writes legal allows every valueFrom textOf startOf columns element page tie firstFrom itemOf plain temperature placeOf departure south west placeAt latitudeFigure longitudeFigure same partsOf octantTie octantFits placeTie signTie digitTie lastDigit windTie isText isDeparture isCoordinate isSign isTemperature
 whole-amount = refl
 
 -- the greatest text there is
-pub whole-text : writtenIn Four (said 42 (Text 18446744073709551615) (of-edition 3 4)) ≡ refusing (Illegal 42)
-unfolding writtenIn missing said recordOf recordFrom rowFrom spelled numeralFor amountNumeral placeNumeral writes legal allows every valueFrom textOf startOf columns element page tie firstFrom itemOf plain temperature placeOf departure south west placeAt latitudeFigure longitudeFigure same partsOf octantTie octantFits placeTie signTie digitTie lastDigit windTie run isText isDeparture isCoordinate isSign isTemperature
+pub whole-text : verdictIn 159 (writtenIn Four (said 42 (Text 18446744073709551615) (of-edition 3 4))) ≡ Refused (Illegal 42)
+unfolding inRoom writtenIn missing said recordOf recordFrom rowFrom spelled numeralFor amountNumeral placeNumeral writes legal allows every valueFrom textOf startOf columns element page tie firstFrom itemOf plain temperature placeOf departure south west placeAt latitudeFigure longitudeFigure same partsOf octantTie octantFits placeTie signTie digitTie lastDigit windTie run isText isDeparture isCoordinate isSign isTemperature
 whole-text = refl

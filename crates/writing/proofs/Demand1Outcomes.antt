@@ -30,7 +30,7 @@ use Rattle.writing.specs.Written.{writes, writtenIn, writtenAs, written}
 use Rattle.writing.specs.Fits.{AllGivable, TiedBelow, FitsIn, ungivable, broken, cramped, written as fully, Fits, unheld, held}
 use Rattle.writing.proofs.GivableLaws.{given-writes}
 use Rattle.writing.proofs.DoneLaws.{WritesBelow, Judged, unwritable, breaking, kept, judged, fine-in, cramped-in}
-use Rattle.writing.proofs.Demand2Refused.{by-record, lowest-ungivable, refused-exactly}
+use Rattle.writing.proofs.Demand2Refused.{by-record, lowest-ungivable, comes-to-6}
 
 module _ (ed : Edition) (rs : List Reading) (room : ℕ) where
   all-givable : WritesBelow ed rs (1 + 101) → AllGivable ed rs
@@ -59,7 +59,7 @@ module _ (ed : Edition) (rs : List Reading) (room : ℕ) where
 
   is-the-one : (v : Verdict) → FitsIn ed rs room v → v ≡ verdictIn room (writtenIn ed rs)
   unfolding inRoom
-  is-the-one v (ungivable e u) = rw (refused-exactly ed rs e .1 u)
+  is-the-one v (ungivable e u) = rw (comes-to-6 ed rs e .1 u)
   is-the-one v (broken g k x f) = rw (breaks-at k (all-written g) x f)
   is-the-one v (cramped g f h) = ap verdictOf (sym (cramped-in ed rs room (all-written g) f h))
   is-the-one v (fully g f h) = ap verdictOf (sym (fine-in ed rs room (all-written g) f h))

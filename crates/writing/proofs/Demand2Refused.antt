@@ -12,7 +12,9 @@ use lib.Dec.{leb, lit≤}
 use Rattle.text.proofs.Ways.{and-first, and-second}
 use Rattle.layout.specs.declared.Edition.{Edition}
 use Rattle.refusals.specs.declared.Refusal.the-variants.{Illegal}
-use Rattle.refusals.specs.Lent.{Call, refusing, Quiet}
+use Rattle.refusals.specs.declared.Verdict.the-variants.{Refused}
+use Rattle.refusals.proofs.LentLaws.{by-its-rules}
+use Rattle.refusals.specs.Lent.{inRoom, verdictIn, Call, refusing, Quiet}
 use Rattle.layout.specs.Page.{legal, isCoordinate, isTemperature, element, page}
 use Rattle.reading.specs.declared.Reading.{Reading}
 use Rattle.reading.specs.Readings.{lead, readingOf}
@@ -86,8 +88,8 @@ module _ (ed : Edition) (rs : List Reading) where
       by false y p q = absurd (b .none (a .earlier k (b .low) (leb-false _ _ p)))
       by true false p q = absurd (a .none (b .earlier j (a .low) (leb-false _ _ q)))
 
-  pub refused-exactly : (k : ℕ) → (writtenIn ed rs ≡ refusing (Illegal k)) ↔ Ungivable ed rs k
-  refused-exactly k = (λ e. to _ (judged ed rs) e, λ u. from u _ (judged ed rs))
+  pub comes-to-6 : (k : ℕ) → (writtenIn ed rs ≡ refusing (Illegal k)) ↔ Ungivable ed rs k
+  comes-to-6 k = (λ e. to _ (judged ed rs) e, λ u. from u _ (judged ed rs))
     where
       to : (c : Call Quiet) → Judged ed rs c → c ≡ refusing (Illegal k) → Ungivable ed rs k
       to c (unwritable m a b x below) e = let here : k ≡ lead m = cc in rw here (lowest-ungivable m a (omega arith) x below)
@@ -101,3 +103,11 @@ module _ (ed : Edition) (rs : List Reading) where
       from u c (unwritable m a b x below) = ap (λ (p : ℕ). refusing (Illegal p)) (only-one (lead m) k (lowest-ungivable m a (omega arith) x below) u)
       from u c (breaking f m x g) = absurd (no-more u f)
       from u c (kept f g) = absurd (no-more u f)
+
+  -- the same of the verdict, whatever the room
+  pub refused-exactly : (k room : ℕ) → (verdictIn room (writtenIn ed rs) ≡ Refused (Illegal k)) ↔ Ungivable ed rs k
+  unfolding inRoom
+  refused-exactly k room = (
+    λ e. comes-to-6 k .0 (by-its-rules room (Illegal k) (λ f. let z : _≡_ {A = ℕ} 0 1 = cc in omega arith) (writtenIn ed rs) e),
+    λ u. ap (verdictIn room) (comes-to-6 k .1 u),
+  )

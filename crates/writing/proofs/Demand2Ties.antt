@@ -18,7 +18,9 @@ use Rattle.text.proofs.Ways.{and-first, and-second, decide}
 use Rattle.numerals.specs.Numerals.{spelled, spell, inDigits, inBlanks}
 use Rattle.layout.specs.declared.Edition.{Edition}
 use Rattle.refusals.specs.declared.Refusal.the-variants.{Broken}
-use Rattle.refusals.specs.Lent.{Call, refusing, Quiet}
+use Rattle.refusals.specs.declared.Verdict.the-variants.{Refused}
+use Rattle.refusals.proofs.LentLaws.{by-its-rules}
+use Rattle.refusals.specs.Lent.{verdictIn, Call, refusing, Quiet}
 use Rattle.layout.specs.Page.{element, page, widthOf, textOf, isSign, isCoordinate, isTemperature}
 use Rattle.layout.proofs.Beyond.{last-above}
 use Rattle.ties.specs.Ties.{placeTie, signTie, tie}
@@ -138,8 +140,8 @@ module _ (ed : Edition) (xs : List ℕ) where
       (either-half (within-readings (suc k)) _ (passes-below (length (Ties.ties ed xs)) (λ k. within-readings (suc k) || member (suc k) between-readings) either-kind k (broken-listed ed xs (suc k) x)))
 
 -- write breaks no tie but those between readings
-pub breaks-only : (ed : Edition) (rs : List Reading) (k : ℕ) → writtenIn ed rs ≡ refusing (Broken k) → member k between-readings ≡ true
-breaks-only ed rs k e = by _ (judged ed rs) e
+pub breaks-only : (ed : Edition) (rs : List Reading) (room k : ℕ) → verdictIn room (writtenIn ed rs) ≡ Refused (Broken k) → member k between-readings ≡ true
+breaks-only ed rs room k e = by _ (judged ed rs) (by-its-rules room (Broken k) (λ f. let z : _≡_ {A = ℕ} 0 1 = cc in omega arith) (writtenIn ed rs) e)
   where
     by : (c : Call Quiet) → Judged ed rs c → c ≡ refusing (Broken k) → member k between-readings ≡ true
     by c (unwritable m a b x f) e = let z : _≡_ {A = ℕ} 0 1 = cc in absurd (omega arith)

@@ -3,6 +3,8 @@
 // All editions share columns, and the first byte of an element says whether it is lost. So both go by
 // bytes: a few elements alone, and the flags eight at a time. `lost_in` of specs/LostBytes.antt says which
 // byte is lost where; that it is lost exactly where `meanings` says so is proved in proofs/Table.antt.
+#![tactic(auto)]
+
 pub mod names;
 
 ghost use Rattle.std.specs.Prelude.{true, false, cond, ◌≡◌, ℕ, ◌+◌, ◌≤◌, length};

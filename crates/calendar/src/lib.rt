@@ -1,4 +1,6 @@
 // The calendar: Gregorian, by the same rule for every year from 0000 on.
+#![tactic(auto)]
+
 ghost use Rattle.std.specs.Prelude.{◌≡◌};
 ghost use Rattle.calendar.specs.Calendar.{leaps, last_day};
 

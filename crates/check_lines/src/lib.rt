@@ -1,4 +1,6 @@
 // What check_report says of a record, put into a lent buffer.
+#![tactic(auto)]
+
 ghost use Rattle.std.specs.Prelude.{◌+◌, ◌≤◌, length};
 ghost use Rattle.report_lines.specs.Says.{record_most, Says};
 ghost use Rattle.check_lines.specs.Sentences.{check_said, check_refused};

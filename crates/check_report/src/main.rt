@@ -7,6 +7,8 @@
 //     I ok edition E             it is accepted; and, where it has one,   I call sign TEXT
 //     I refused N P              it is not: the number of the refusal and its place
 //     records N refused M        last: how many records there were, and how many were refused
+#![tactic(auto)]
+
 use reporting::{Job, Stage};
 
 fn main() {

@@ -2,6 +2,8 @@
 //
 // A call takes every byte string and comes back: the record is only read, and whatever is wrong with
 // it is the answer. `checked` of specs/Check.antt says which answer.
+#![tactic(auto)]
+
 ghost use Rattle.std.specs.Prelude.{◌≡◌, ◌≤◌, length};
 ghost use Rattle.text.specs.First.{first_of};
 ghost use Rattle.layout.specs.declared.Edition.{Edition};
@@ -13,7 +15,7 @@ use layout::{Edition, Named, page};
 use refusals::{Refusal, Verdict};
 
 // What checking a record answers.
-#[derive(Drop)]
+#[derive(Clone, Copy)]
 pub enum Answer {
     // it has the columns, codes and ties of its edition
     Accepted(Edition),

@@ -5,6 +5,8 @@
 // or both are filled, '>' where no character stands after a blank, '.' where the next is free. A blank
 // may stand anywhere. They are no second page: `part` promises something of rows that are the page's own
 // alone, and that these are is computed. Each function answers 0 where nothing strays.
+#![tactic(auto)]
+
 pub mod four;
 pub mod one;
 pub mod three;

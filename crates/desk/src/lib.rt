@@ -2,6 +2,8 @@
 //
 // Each is one call and some stores. A record is a pointer and a length, as C passes a slice; a
 // number behind a pointer is part of the answer and is set at every call.
+#![tactic(auto)]
+
 ghost use Rattle.std.specs.Prelude.{◌≡◌, length};
 ghost use Rattle.refusals.specs.Verdicts.{verdict_number, verdict_place};
 ghost use Rattle.refusals.specs.Lent.{left_by};

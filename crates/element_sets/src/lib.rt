@@ -3,10 +3,12 @@
 //
 // The contracts cite `specs/ElementSets.antt`; that the set is the list of lost elements, and its number
 // of ones how many they are, is proved in `proofs/Demand3Losses.antt`.
+#![tactic(auto)]
+
 ghost use Rattle.std.specs.Prelude.{◌≡◌};
 ghost use Rattle.element_sets.specs.ElementSets.{no_elements, with_element, has_element, count_of, lowest_of};
 
-#[derive(Drop)]
+#[derive(Clone, Copy)]
 pub struct ElementSet {
     pub low: u64,
     pub high: u64,

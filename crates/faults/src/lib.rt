@@ -2,6 +2,8 @@
 //
 // Many of them are joined with no branch: `|` of two passes where both pass, `&` where either does. Each
 // is a single `if`, so that the compiler makes it of sixteen bytes at once where a loop asks it of them.
+#![tactic(auto)]
+
 ghost use Rattle.std.specs.Prelude.{◌≡◌, ◌≤◌, not, ◌==◌, nat_le};
 ghost use Rattle.text.specs.Bytes.{between};
 ghost use Rattle.faults.specs.Faults.{no};

@@ -3,6 +3,8 @@
 // Most records are, and one look over them with hardly a branch is enough. First the columns, then the
 // numbers that have limits and the ties. A yes is proved; a no says nothing, and whoever asked has to
 // look for what is wrong. Each function but the last two answers 0 where nothing is.
+#![tactic(auto)]
+
 ghost use Rattle.std.specs.Prelude.{◌≡◌, true, ◌+◌, ◌≤◌, length};
 ghost use Rattle.text.specs.Bytes.{word};
 ghost use Rattle.faults.specs.Faults.{no};

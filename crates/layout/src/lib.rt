@@ -1,6 +1,8 @@
 // The three editions of the IMMT record: their lengths, and the layout page.
 //
 // The definitions of specs/ are the document; the functions here are what they compute.
+#![tactic(auto)]
+
 pub mod legal_texts;
 pub mod page;
 pub mod widths;
@@ -13,7 +15,7 @@ pub const LONGEST: usize = 159;
 
 pub const ELEMENTS: usize = 101;
 
-#[derive(Drop)]
+#[derive(Clone, Copy)]
 pub enum Edition {
     One,
     Three,
@@ -21,7 +23,7 @@ pub enum Edition {
 }
 
 // What the character in column 111 names.
-#[derive(Drop)]
+#[derive(Clone, Copy)]
 pub enum Named {
     Known(Edition),
     Unknown,

@@ -4,9 +4,10 @@
 // an element means stands in specs/Meaning.antt, and when it is lost in specs/Kept.antt and
 // specs/Lost.antt: what is said there is the business of no function here, but of `blanking` and
 // `recasting`.
+#![tactic(auto)]
 
 // The sense in which an edition takes a code.
-#[derive(Drop)]
+#[derive(Clone, Copy)]
 pub enum Sense {
     // the same across editions
     Alike,

@@ -2,12 +2,14 @@
 //
 // One loop spells digits, bytes and blanks alike: they differ in the base and in the byte that stands
 // for nought.
+#![tactic(auto)]
+
 ghost use Rattle.std.specs.Prelude.{◌≡◌, ◌+◌, ◌≤◌, ◌<◌, length};
 ghost use Rattle.text.specs.Bytes.{word};
 ghost use Rattle.numerals.specs.Numerals.{in_digits, in_bytes, in_blanks, spell, placed};
 
 // A number, and the base and the nought that it is spelled with.
-#[derive(Drop)]
+#[derive(Clone, Copy)]
 pub struct Numeral {
     pub base: u64,
     pub nought: u64,

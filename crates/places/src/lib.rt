@@ -3,6 +3,8 @@
 //
 // A digit of column 12 gives two hemispheres, and in edition 1 a range of longitudes with them. What the
 // columns of latitude and longitude say as numbers are their figures here.
+#![tactic(auto)]
+
 pub mod column_12;
 
 ghost use Rattle.std.specs.Prelude.{◌≡◌, ◌^◌, ◌<◌};
@@ -12,7 +14,7 @@ use layout::Edition;
 
 // Where the ship was: hundredths of a degree of latitude, negative in the south, and of east longitude
 // from 0 to 35999, and the digit of column 12 as it stands.
-#[derive(Drop)]
+#[derive(Clone, Copy)]
 pub struct Place {
     pub latitude: i64,
     pub longitude: u64,

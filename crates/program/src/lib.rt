@@ -4,6 +4,8 @@
 // A program of this language has no exit status of its own. `./desk` starts one with a word as its argument
 // and a descriptor 3 that it reads afterwards, and there the program says how it ended. Started without a
 // word it says nothing: descriptor 3 may then be anybody's.
+#![tactic(auto)]
+
 use libc::{STDERR_FILENO, STDOUT_FILENO};
 use report_run::Ending;
 use reporting::Stage;

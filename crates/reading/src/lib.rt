@@ -3,6 +3,8 @@
 // One call checks a record and reads it, every element: `read_of` of specs/Answers.antt says what it
 // answers. A reading is missing, a code, a text, an amount with its kind, or a place; what each element
 // reads as is `item_of` of specs/Readings.antt.
+#![tactic(auto)]
+
 ghost use Rattle.std.specs.Prelude.{◌≡◌, true, cond, not, ◌&&◌, ◌||◌, [], ◌∷◌, ◌≤◌, eqb, length};
 ghost use Rattle.text.specs.LegalTexts.{among};
 ghost use Rattle.layout.specs.declared.Edition.{Edition};
@@ -18,7 +20,7 @@ use layout::{ELEMENTS, Edition, page};
 use places::Place;
 
 // How an amount came about.
-#[derive(Drop)]
+#[derive(Clone, Copy)]
 pub enum Kind {
     Measured,
     Computed,
@@ -26,7 +28,7 @@ pub enum Kind {
     IcedComputed,
 }
 
-#[derive(Drop)]
+#[derive(Clone, Copy)]
 pub enum Reading {
     Missing,
     Code(u64),
@@ -36,14 +38,14 @@ pub enum Reading {
 }
 
 // What one element reads as. (A struct that holds an array holds one of structs.)
-#[derive(Drop)]
+#[derive(Clone, Copy)]
 pub struct Entry {
     pub reading: Reading,
 }
 
 // What reading a record answers: its edition, and an entry for each of the 101 elements, the first for
 // element 1; or the refusal, and then every entry is missing.
-#[derive(Drop)]
+#[derive(Clone, Copy)]
 pub struct Readings {
     pub answer: Answer,
     pub entries: [Entry; ELEMENTS],

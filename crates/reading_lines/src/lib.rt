@@ -1,4 +1,6 @@
 // What the program readings says of a record, put into a lent buffer.
+#![tactic(auto)]
+
 ghost use Rattle.std.specs.Prelude.{◌+◌, ◌≤◌, ◌++◌, ◌≡◌, length};
 ghost use Rattle.layout.specs.Editions.{length_of};
 ghost use Rattle.reading.specs.declared.Reading.TheVariants.{Amount, At};

@@ -15,6 +15,8 @@
 //     I call sign TEXT           where the record has one
 //     I written same             the record written from these readings is the record read
 //     records N refused M        last: how many records there were, and how many were refused
+#![tactic(auto)]
+
 use reporting::{Job, Stage};
 
 fn main() {

@@ -1,4 +1,6 @@
 // The lines of the recast report, put into a lent buffer.
+#![tactic(auto)]
+
 ghost use Rattle.std.specs.Prelude.{◌+◌, ◌≤◌, length};
 ghost use Rattle.element_sets.specs.Loops.{elements_in};
 ghost use Rattle.refusals.specs.declared.Verdict.TheVariants.{Fine};

@@ -10,6 +10,8 @@
 //     records N refused M        last: how many records there were, and how many were refused
 //
 // A first line that is absent or names no edition gets 'recast refused 8' and nothing else.
+#![tactic(auto)]
+
 use reporting::Stage;
 
 fn main() {

@@ -3,6 +3,8 @@
 // All editions share columns, so the record is copied into the lent buffer, the elements that the target
 // has no text for are blanked there and named, and columns 12 and 111 are set by rules of their own.
 // `recast_of` of specs/Recast.antt says what is answered; what is lost is the business of `blanking`.
+#![tactic(auto)]
+
 ghost use Rattle.std.specs.Prelude.{◌≡◌, ◌<◌, ◌≤◌, length, take, drop, set};
 ghost use Rattle.refusals.specs.Lent.{Answers};
 ghost use Rattle.layout.specs.Editions.{asked, length_of};
@@ -17,7 +19,7 @@ use layout::{Edition, Named, page, widths};
 use refusals::{Refusal, Verdict};
 
 // What recasting a record answers: the verdict, and the elements lost, none where it is refused.
-#[derive(Drop)]
+#[derive(Clone, Copy)]
 pub struct Outcome {
     pub verdict: Verdict,
     pub losses: ElementSet,
@@ -70,10 +72,10 @@ fn fill_rest(from: Edition, line: &[u8], rest: &mut [u8])
 {
     if places::column_12::is_first(from) {
         let blanks = [32u8; 28];
-        bytes::copy(&blanks, rest);
+        octets::copy(&blanks, rest);
         return;
     }
-    bytes::copy(&line[Edition::LENGTH_1..Edition::LENGTH_3], rest);
+    octets::copy(&line[Edition::LENGTH_1..Edition::LENGTH_3], rest);
 }
 
 // Copies the record into a row of the target's length. The lengths stand in the code, so that the
@@ -82,7 +84,7 @@ fn fill(from: Edition, to: Edition, line: &[u8], row: &mut [u8])
     requires { (length line.now ≡ length_of from) × (length row.old ≡ length_of to) }
     ensures { row.new ≡ take (length_of to) (widened line.now) }
 {
-    bytes::copy(&line[..Edition::LENGTH_1], row);
+    octets::copy(&line[..Edition::LENGTH_1], row);
     if places::column_12::is_first(to) {
         return;
     }

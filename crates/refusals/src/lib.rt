@@ -2,12 +2,14 @@
 //
 // `row_of` of specs/Refusals.antt is the table of refusals. What a call does to a buffer that is lent to it
 // is said once for all calls, in specs/Lent.antt.
+#![tactic(auto)]
+
 ghost use Rattle.std.specs.Prelude.{◌≡◌};
 ghost use Rattle.refusals.specs.Refusals.{number_of, where_of};
 ghost use Rattle.refusals.specs.Verdicts.{verdict_number, verdict_place};
 
 // Why a call refuses, with the place where that goes by the input.
-#[derive(Drop)]
+#[derive(Clone, Copy)]
 pub enum Refusal {
     // length neither 131 nor 159
     Length,
@@ -66,7 +68,7 @@ impl Refusal {
 }
 
 // What a call says of what it was given.
-#[derive(Drop)]
+#[derive(Clone, Copy)]
 pub enum Verdict {
     Fine,
     Refused(Refusal),

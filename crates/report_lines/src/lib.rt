@@ -2,6 +2,8 @@
 //
 // Each function answers the place right after what it put. What a report says of a record is put by a
 // crate of its own, which answers what is declared here.
+#![tactic(auto)]
+
 ghost use Rattle.std.specs.Prelude.{◌+◌, ◌≤◌, length};
 ghost use Rattle.wording.specs.Puts.{Puts};
 ghost use Rattle.report_lines.specs.Says.{line_most};
@@ -12,7 +14,7 @@ use refusals::Refusal;
 use wording::{put_number, put_numbered, put_text};
 
 // What saying something of a record leads to: the place after it, and whether the record was refused.
-#[derive(Drop)]
+#[derive(Clone, Copy)]
 pub struct Said {
     pub end: usize,
     pub refused: bool,

@@ -2,6 +2,8 @@
 //
 // All that is told is told by the crate `reporting`, whose run is proved to say the report of the whole
 // input in whatever pieces it is fed; what stands here only moves bytes, and stops where they do not move.
+#![tactic(auto)]
+
 ghost use Rattle.std.specs.Prelude.{◌≤◌, length};
 ghost use Rattle.report_lines.specs.Says.{record_most};
 
@@ -13,7 +15,7 @@ use reporting::{Run, Stage};
 const PIECE: usize = 262144;
 
 // How a report came to its end.
-#[derive(Drop)]
+#[derive(Clone, Copy)]
 pub enum Ending {
     // the whole input was read, all was written, and nothing was refused
     Accepted,
@@ -26,7 +28,7 @@ pub enum Ending {
 }
 
 // What moving a piece of the input came to.
-#[derive(Drop)]
+#[derive(Clone, Copy)]
 enum Step {
     // there may be more
     More,
@@ -39,14 +41,14 @@ enum Step {
 }
 
 // A run so far, and what the last piece came to.
-#[derive(Drop)]
+#[derive(Clone, Copy)]
 struct Moved {
     run: Run,
     step: Step,
 }
 
 // A run after a piece, and whether a write failed.
-#[derive(Drop)]
+#[derive(Clone, Copy)]
 struct Written {
     run: Run,
     failed: bool,

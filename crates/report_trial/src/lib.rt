@@ -2,6 +2,8 @@
 //
 // They are here so that a report can be timed with no program around it, and a program as code of any
 // processor (bench/run), and for nothing else.
+#![tactic(auto)]
+
 ghost use Rattle.std.specs.Prelude.{◌≤◌, length};
 
 use report_run::Ending;

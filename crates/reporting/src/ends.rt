@@ -41,5 +41,5 @@ pub fn line_end(piece: &[u8], from: usize) -> usize
         }
         at += 16;
     }
-    bytes::scan::find(piece, at, piece.len(), b'\n')
+    octets::find(piece, at, b'\n')
 }

@@ -3,6 +3,8 @@
 // The job says what is told of each record; a report may begin with a line that asks for an edition. The
 // contracts cite specs/Run.antt, where the run is told byte by byte; that a run says the report of the
 // whole input, in whatever pieces it was fed, is proved in proofs/Demand2Run.antt for every job at once.
+#![tactic(auto)]
+
 mod ends;
 
 ghost use Rattle.std.specs.Prelude.{◌≡◌, ◌++◌, ◌+◌, ◌≤◌, min, length, take};
@@ -17,7 +19,7 @@ use layout::{Edition, LONGEST, Named};
 use report_lines::Said;
 
 // What is told of each record.
-#[derive(Drop)]
+#[derive(Clone, Copy)]
 pub enum Job {
     // what the check answers
     Check,
@@ -28,7 +30,7 @@ pub enum Job {
 }
 
 // What the lines so far have led to.
-#[derive(Drop)]
+#[derive(Clone, Copy)]
 pub enum Stage {
     // the first line is still to end, which asks for an edition to recast to
     Asking,
@@ -39,7 +41,7 @@ pub enum Stage {
 }
 
 // The stage, and how many records were met and how many of them were refused.
-#[derive(Drop)]
+#[derive(Clone, Copy)]
 pub struct Ledger {
     pub stage: Stage,
     pub records: u64,
@@ -51,7 +53,7 @@ pub const HELD: usize = LONGEST + 1;
 
 // A run between two pieces of its input: the ledger, and the line that has not ended yet, as much of it as
 // is held.
-#[derive(Drop)]
+#[derive(Clone, Copy)]
 pub struct Run {
     pub ledger: Ledger,
     pub held: [u8; HELD],
@@ -60,7 +62,7 @@ pub struct Run {
 
 // What feeding a piece leads to: the run after it, how many bytes of the piece were taken, and how many
 // were written.
-#[derive(Drop)]
+#[derive(Clone, Copy)]
 pub struct Fed {
     pub run: Run,
     pub taken: usize,
@@ -68,14 +70,14 @@ pub struct Fed {
 }
 
 // What finishing a run leads to: how many bytes were written, and whether anything was refused.
-#[derive(Drop)]
+#[derive(Clone, Copy)]
 pub struct Finished {
     pub written: usize,
     pub refused: bool,
 }
 
 // What a line leads to: the ledger after it, and the place after what is said of it.
-#[derive(Drop)]
+#[derive(Clone, Copy)]
 struct Told {
     ledger: Ledger,
     end: usize,

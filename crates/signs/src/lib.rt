@@ -1,6 +1,8 @@
 // Numbers with a sign, made of one and a plain number and taken apart again.
 //
 // All arithmetic is on plain numbers; signed ones are made here and nowhere else.
+#![tactic(auto)]
+
 ghost use Rattle.std.specs.Prelude.{◌≡◌, ◌^◌, ◌<◌, ◌≤◌, nat_abs};
 ghost use Rattle.signs.specs.Signed.{signed, negative, same_signed};
 

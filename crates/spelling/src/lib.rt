@@ -4,6 +4,8 @@
 // sign and of its temperature, a place in those of its digit, latitude and longitude. It is spelled as well
 // as it can be, whatever the reading; whether the text is legal and reads as the reading is asked
 // afterwards, by comparing the two readings part by part.
+#![tactic(auto)]
+
 ghost use Rattle.std.specs.Prelude.{◌≡◌, cond, ◌≤◌, ◌<◌, ◌+◌, ◌^◌, length};
 ghost use Rattle.layout.specs.Editions.{longest_record, last_element};
 ghost use Rattle.reading.specs.Answers.{readings};
@@ -16,7 +18,7 @@ use places::Place;
 use reading::{Entry, Kind, Reading};
 
 // A reading taken apart into numbers, so that two can be compared.
-#[derive(Drop)]
+#[derive(Clone, Copy)]
 pub struct Parts {
     pub case: u64,
     pub below: bool,

@@ -1,5 +1,7 @@
 // Runs the recast report on 440 records to edition 1: what it must write comes from an implementation
 // that shares no line with this one.
+#![tactic(auto)]
+
 use reporting::Stage;
 
 fn main() {

@@ -2,13 +2,15 @@
 //
 // Every function takes the columns alone, as a part of the record. What a record's columns are is
 // the business of `layout`. The contracts cite `specs/Bytes.antt` and `specs/LegalTexts.antt`.
+#![tactic(auto)]
+
 ghost use Rattle.std.specs.Bool.{beq};
 ghost use Rattle.std.specs.Prelude.{◌≡◌, ◌≤◌, ◌-◌, length, take};
 ghost use Rattle.text.specs.Bytes.{every, between, either, blank, number, run, to_last_non_blank};
 ghost use Rattle.text.specs.LegalTexts.{among, call_sign, allows, digits_in};
 
 // The texts that an element may hold where it is not blank.
-#[derive(Drop)]
+#[derive(Clone, Copy)]
 pub enum LegalTexts {
     // none: the edition has no such element
     Nothing,
@@ -29,7 +31,7 @@ pub enum LegalTexts {
 }
 
 // What some bytes say, taken as a number.
-#[derive(Drop)]
+#[derive(Clone, Copy)]
 pub enum Digits {
     Number(u32),
     Other,

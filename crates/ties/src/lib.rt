@@ -2,6 +2,8 @@
 //
 // Each tie is a test of the texts of its elements. `holds` hands it those; ties 7 and 10 take their own.
 // Columns that a record does not have are taken as blank, so no tie asks how long the record is.
+#![tactic(auto)]
+
 ghost use Rattle.std.specs.Prelude.{◌≡◌, not, ◌&&◌, ◌≤◌, eqb, length};
 ghost use Rattle.std.specs.Bool.{beq};
 ghost use Rattle.ties.specs.Ties.{there, place_tie, octant_tie, minus, sign_tie, last_digit, tenths_fit, measured_fit, wind_tie, tie, first_broken};

@@ -6,6 +6,8 @@
 // code, 2 a text, 3 an amount, 4 a place); the code or the text's number; the kind (0 measured, 1 computed,
 // 2 iced measured, 3 iced computed) or the longitude; the digit of column 12. And beside them one number
 // with a sign: the amount or the latitude. What a case does not use is 0.
+#![tactic(auto)]
+
 ghost use Rattle.std.specs.Prelude.{◌≡◌, ◌&&◌, ◌++◌, ◌*◌, ◌≤◌, leb, pos, length, get_or, drop};
 ghost use Rattle.layout.specs.Editions.{last_element};
 ghost use Rattle.refusals.specs.Verdicts.{verdict_number, verdict_place};
@@ -24,7 +26,7 @@ use reading::{Entry, Kind, Reading, Readings};
 const NUMBERS: usize = 4 * ELEMENTS;
 
 // The numbers of a reading, the one with a sign last.
-#[derive(Drop)]
+#[derive(Clone, Copy)]
 pub struct Packed {
     pub case: u64,
     pub first: u64,
@@ -153,7 +155,7 @@ pub extern "C" fn trial_show(line: &[u8], buffer: &mut [u8]) -> u64
 {
     let sign = checking::show_call_sign(line);
     if sign.len() <= buffer.len() {
-        bytes::copy(sign, buffer);
+        octets::copy(sign, buffer);
     }
     sign.len() as u64
 }

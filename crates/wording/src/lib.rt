@@ -2,6 +2,8 @@
 //
 // Each function answers the place right after what it put, so that a report is put together by handing
 // each answer to the next call.
+#![tactic(auto)]
+
 ghost use Rattle.std.specs.Prelude.{◌+◌, ◌≤◌, ◌≡◌, length};
 ghost use Rattle.numerals.specs.Numerals.{spelled, placed};
 ghost use Rattle.wording.specs.Wording.{decimal, signed_decimal, numbered};

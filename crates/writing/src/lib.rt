@@ -4,6 +4,8 @@
 // and read, and each element is asked whether it reads as the reading that was given and, where the check
 // refused the whole, whether its text is legal. So what is written reads back, and a reading that no legal
 // text gives is refused whatever it is.
+#![tactic(auto)]
+
 ghost use Rattle.std.specs.Prelude.{◌≡◌, true, ◌&&◌, length};
 ghost use Rattle.text.specs.First.{first_of};
 ghost use Rattle.refusals.specs.Lent.{verdict_of, Answers};
@@ -95,7 +97,7 @@ fn write_in(edition: Edition, entries: [Entry; ELEMENTS], buffer: &mut [u8]) -> 
     if buffer.len() < length {
         return Verdict::Refused(Refusal::Room);
     }
-    bytes::copy(&row[..length], buffer);
+    octets::copy(&row[..length], buffer);
     Verdict::Fine
 }
 

@@ -2,7 +2,7 @@
 use mathlib.Core.Path.{◌≡◌, refl, ap₂}
 use mathlib.Core.Bool.{Bool, true, false}
 use mathlib.Core.List.{List, [], ◌∷◌}
-use Prim.Native.Nat.{ℕ, suc, ◌+◌, ◌-◌, ◌*◌, ◌<◌, ◌≤◌}
+use Prim.Native.Nat.{ℕ, ◌+◌, ◌-◌, ◌*◌, ◌<◌, ◌≤◌}
 use native.Mathlib.Omega.{arith}
 use borrow.Author.Tests.{ltb-true, ltb-false}
 use lib.Dec.{ltb}
@@ -34,7 +34,7 @@ order_from m n p q [] [] l d e o = o
 order_from m n p q [] (c ∷ u) l d e o = absurd (omega arith)
 order_from m n p q (b ∷ t) [] l d e o = absurd (omega arith)
 order_from m n p q (b ∷ t) (c ∷ u) l d e o =
-    order_from _ _ _ _ t u (omega arith) (and_second (between 48 57 b) _ d) (and_second (between 48 57 c) _ e) (order_more m n p q b c (and_first _ (digits t) d) (and_first _ (digits u) e) o)
+    order_from (m * 256 + (b - 0)) (n * 10 + (b - 48)) (p * 256 + (c - 0)) (q * 10 + (c - 48)) t u (omega arith) (and_second (between 48 57 b) _ d) (and_second (between 48 57 c) _ e) (order_more m n p q b c (and_first _ (digits t) d) (and_first _ (digits u) e) o)
 
 module _ (t u : List ℕ) (l : length t ≡ length u) (d : digits t ≡ true) (e : digits u ≡ true) where
   ordered : Ordered (word t) (number t) (word u) (number u)
@@ -60,7 +60,7 @@ module _ (t u : List ℕ) (l : length t ≡ length u) (d : digits t ≡ true) (e
 most_from : (n m : ℕ) (t : List ℕ) → n ≤ m → digits t ≡ true → number_from n t ≤ number_from m (replicate (length t) 57)
 unfolding value_from every
 most_from n m [] h d = h
-most_from n m (b ∷ t) h d = most_from _ _ t (omega (arith, greatest 48 57 b (and_first _ (digits t) d))) (and_second (between 48 57 b) _ d)
+most_from n m (b ∷ t) h d = most_from (n * 10 + (b - 48)) (m * 10 + (57 - 48)) t (omega (arith, greatest 48 57 b (and_first _ (digits t) d))) (and_second (between 48 57 b) _ d)
 
 pub most : (t : List ℕ) → digits t ≡ true → number t ≤ number (replicate (length t) 57)
 most t d = most_from 0 0 t (omega arith) d

@@ -1,0 +1,16 @@
+-- `text::is_among` meets its contract. Assumes nothing.
+use Rattle.text.proofs.Numbers.{among_last}
+use borrow.Author.Tests.{eq-eqb, ne_eqb}
+use Rattle.text.proofs.is_among.Goals as goal
+
+pub returns-then-n-a : goal.returns-then-n-a
+returns-then-n-a c = simp (eq-eqb _ _ c.if-n-a.true)
+
+pub returns-then-n-b : goal.returns-then-n-b
+returns-then-n-b c = simp (ne_eqb _ _ c.if-n-a.false, eq-eqb _ _ c.if-n-b.true)
+
+pub returns-then-n-c : goal.returns-then-n-c
+returns-then-n-c c = simp (ne_eqb _ _ c.if-n-a.false, ne_eqb _ _ c.if-n-b.false, eq-eqb _ _ c.if-n-c.true)
+
+pub returns : goal.returns
+returns c = among_last _ _ _ _ _ c.if-n-a.false c.if-n-b.false c.if-n-c.false

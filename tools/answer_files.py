@@ -36,6 +36,28 @@ class Function:
         # the goal that is being answered
         self.goal = None
 
+    def inside(self, text):
+        """The answers that stand in the list of tie.spec itself, and say more than the check finds: goal, place and term."""
+        text = text.strip()
+        if text.endswith(")"):
+            text = text[:-1]
+        args, i = [], 0
+        while i < len(text):
+            if text[i] == " ":
+                i += 1
+                continue
+            j = Turner.match(text, i) + 1 if text[i] == "(" else (text.find(" ", i) if " " in text[i:] else len(text))
+            args.append(text[i:j])
+            i = j
+        args = args[2 * len(self.loops) :]
+        needs = list(self.needs)
+        if len(args) != len(needs):
+            self.said.append(f"{len(args)} answers for {len(needs)} goals")
+        for need, arg in zip(needs, args):
+            m = re.match(r"\(λ c(?: κs)?\. (.*)\)$", arg)
+            if m and m.group(1) != "search rules":
+                yield self.needs[need], self.index[self.need_place[need]], m.group(1)
+
     def parent(self, i):
         p = self.places[i][1]
         return None if p is None else self.index[norm(p)]
@@ -79,15 +101,21 @@ class Function:
             for field, old, path in arm[2]:
                 if norm(old) == norm(step) and rest[: len(path)] == [p for p in path] and (best is None or len(path) > len(best[1])):
                     best = (field, path)
-            if best and best[1]:
+            if best:
                 return ".".join([base, arm[0], best[0]] + rest[len(best[1]) :]), None
         if norm(step) in self.loops:
             rest = ["invariant" if r == "inv" else r for r in rest[:1]] + rest[1:]
         clauses = self.clauses[j]
-        if clauses and len(rest) > 1 and rest[0] == "ensures" and rest[1].isdigit():
-            k = int(rest[1])
-            if k < len(clauses):
-                rest = ["ensures", clauses[k]] + rest[2:]
+        fields = clauses["fields"] if clauses else []
+        if fields and rest[:1] == ["ensures"]:
+            if len(fields) == 1:
+                rest = ["ensures", fields[0]] + rest[1:]
+            else:
+                k, at = 0, 1
+                while at < len(rest) and rest[at] == "1" and k < len(fields) - 2:
+                    k, at = k + 1, at + 1
+                if at < len(rest) and rest[at] in ("0", "1"):
+                    rest = ["ensures", fields[k + int(rest[at])]] + rest[at + 1 :]
         return ".".join([base, new] + rest), None
 
 
@@ -119,7 +147,7 @@ class Turner:
                 inner, place = self.turn(text[i + 1 : j])
                 fields, j = self.fields(text, j + 1)
                 base = "(" + inner + ")"
-                if place is not None and re.fullmatch(r"[\w.'-]+", inner):
+                if place is not None and (re.fullmatch(r"[\w.'-]+", inner) or inner.startswith("(goal.at.")):
                     base = inner
                 t, p = self.f.chain(place, base, fields) if place is not None else (base + "".join("." + x for x in fields), None)
                 out.append(t)
@@ -142,8 +170,14 @@ class Turner:
                         k += 1
                     arg_end = self.atom(text, k)
                     if arg_end > k:
+                        # a place further out: its steps are fields of the argument, and as an argument it is the goal's own view of it
                         inner, _ = self.turn(text[k:arg_end])
-                        out.append(self.renamed.get(name, name) + " " + inner)
+                        inner = re.sub(r"^\((\S+)\)$", r"\1", inner)
+                        root = re.sub(r"(\.before)+$", "", inner)
+                        root = "c" if root.startswith("(goal.at.") else root
+                        if self.f.goal and re.fullmatch(r"c(\.before)*|\(goal\.at\.\S+ c\)\.\S+", inner):
+                            root = f"(goal.at.{self.f.goal} c).{self.f.new_places[self.funs[name]]}"
+                        out.append(root)
                         whole, parts, i = self.funs[name], parts + 1, arg_end
                         continue
                 out.append(self.renamed.get(name, name) + "".join("." + x for x in fields))
@@ -262,9 +296,11 @@ def convert(path, f, crate, fun):
             continue
         if name.endswith("-spec") or name.endswith("_spec"):
             whole = " ".join(l.strip() for l in lines)
-            inner = re.sub(r"\(λ c(?: κs)?\. search rules\)", "", whole)
-            if "λ" in inner.split("tie.spec", 1)[-1]:
-                f.said.append("an answer inside tie.spec: " + inner[-200:])
+            for new, place, term in f.inside(whole.split("tie.spec", 1)[-1]):
+                f.goal = new
+                right, _ = Turner(f, {"c": (place, "c")}, funs, renamed).turn(term)
+                f.goal = None
+                answers.append(f"pub {new} : goal.{new}\n{new} c = {right}")
             continue
         body_at = next(k for k, l in enumerate(lines) if k and re.match(re.escape(name) + r"(\s|=|$)", l))
         signature = "\n".join(lines[:body_at])
@@ -330,6 +366,8 @@ def convert(path, f, crate, fun):
                 answers.append("\n".join(says + [f"pub {new} : goal.{new}"] + unfolding + [f"{new} c ={right}"]))
             continue
         # a helper
+        if funs.get(name) is not None:
+            continue
         env = {}
         sig = signature
         binders = []

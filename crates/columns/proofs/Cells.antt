@@ -8,8 +8,8 @@ use native.Mathlib.Nat.{not-suc-le-zero, zero-add}
 use native.Mathlib.Omega.{arith}
 use borrow.Author.Tests.{eqb-true, leb-true}
 use lib.Dec.{eqb, leb}
-use lib.ListN.{length, get_or, take, replicate, length-replicate, get_or-replicate, get_or_append}
-use lib.Seq.{get_or_append_add}
+use lib.ListN.{length, get_or, take, replicate, length-replicate, get_or-replicate, get_or-append}
+use lib.Seq.{get_or-append-add}
 use Rattle.text.specs.Bytes.{between}
 use Rattle.text.proofs.Ways.{and_first, and_second}
 use Rattle.text.proofs.Among.{either_half}
@@ -79,11 +79,11 @@ flat ed [] zero p h = absurd (not-suc-le-zero h)
 flat ed [] (suc e) p h = absurd (not-suc-le-zero h)
 flat ed (x ∷ es) zero p h =
     ap (λ (n : ℕ). get_or (replicate x.width (cell_of x.width (legal_texts_in ed x)) ++ cells_from ed es) n (cell 0 0 0 0)) (zero-add p) ∙
-    get_or_append (replicate x.width _) (cells_from ed es) (cell 0 0 0 0) p (rw length-replicate h) ∙ get_or-replicate x.width p _ (cell 0 0 0 0) h
+    get_or-append (replicate x.width _) (cells_from ed es) (cell 0 0 0 0) p (rw length-replicate h) ∙ get_or-replicate x.width p _ (cell 0 0 0 0) h
 flat ed (x ∷ es) (suc e) p h =
     let at : x.width + columns (take e es) + p ≡ length (replicate x.width (cell_of x.width (legal_texts_in ed x))) + (columns (take e es) + p) = rw length-replicate (omega arith) in
     ap (λ (n : ℕ). get_or (replicate x.width (cell_of x.width (legal_texts_in ed x)) ++ cells_from ed es) n (cell 0 0 0 0)) at ∙
-    get_or_append_add (replicate x.width _) (cells_from ed es) (columns (take e es) + p) (cell 0 0 0 0) ∙ flat ed es e p h
+    get_or-append-add (replicate x.width _) (cells_from ed es) (columns (take e es) + p) (cell 0 0 0 0) ∙ flat ed es e p h
 
 pub cell_at_lem : (ed : Edition) (e p : ℕ) → p < width_of e → cell_at ed (start_of e + p) ≡ cell_of (width_of e) (legal_texts ed e)
 unfolding cell_at cells start_of element cells_from

@@ -15,7 +15,7 @@ use mathlib.Core.Bool.{Bool, false}
 use Prim.Native.Nat.{ℕ, ◌+◌, ◌-◌, ◌<◌, ◌≤◌}
 use native.Mathlib.Nat.{add_comm}
 use native.Mathlib.Omega.{arith}
-use lib.ListN.{length, length_append}
+use lib.ListN.{length, length-append}
 use Rattle.element_sets.specs.declared.ElementSet.{ElementSet}
 use Rattle.element_sets.specs.ElementSets.{passing, bits, element_set, no_elements, list_of, set_of, has_bit, has_element, count_of, lowest_of, first, Rising}
 use Rattle.text.specs.LegalTexts.{member}
@@ -71,7 +71,7 @@ module _ (f : ℕ → Bool) where
 
   pub ones_are_length : count_of (set_of f) ≡ length (list_of f)
   unfolding set_of
-  ones_are_length = rw (word_ones f 1 64, word_ones f 65 37, elements_split f 1 64 37, length_append)
+  ones_are_length = rw (word_ones f 1 64, word_ones f 65 37, elements_split f 1 64 37, length-append)
 
   pub lowest_is_head : lowest_of (set_of f) ≡ first (list_of f)
   unfolding set_of

@@ -7,8 +7,8 @@ use native.Mathlib.Nat.{add-zero, zero-add, add-suc, suc-add, le_refl}
 use native.Mathlib.Numerals.{add-one}
 use native.Mathlib.Omega.{arith}
 use lib.Dec.{lit≤}
-use lib.ListN.{length, take, drop, length_append, length-drop}
-use lib.Seq.{take_all, take_at, drop_at, length-take-le, take-take, take-add, drop_drop}
+use lib.ListN.{length, take, drop, length-append, length-drop}
+use lib.Seq.{take_all, take_at, drop_at, length-take-le, take-take, take-add, drop-drop}
 use Rattle.layout.specs.declared.Edition.{Edition}
 use Rattle.layout.specs.declared.Edition.TheVariants.{One, Three, Four}
 use Rattle.layout.specs.declared.Named.TheVariants.{Known}
@@ -81,7 +81,7 @@ module _ (text : ℕ → List ℕ) (wide : (e : ℕ) → length (text e) ≡ wid
   unfolding start_of columns
   row_from_lem zero h = refl
   row_from_lem (suc e) h = rw (← add-one e)
-      (ap (λ (k : ℕ). drop k (row_from text 1 101)) (start_next (e + 1)) ∙ sym (drop_drop (width_of (e + 1)) (start_of (e + 1)) (row_from text 1 101)) ∙
+      (ap (λ (k : ℕ). drop k (row_from text 1 101)) (start_next (e + 1)) ∙ sym (drop-drop (width_of (e + 1)) (start_of (e + 1)) (row_from text 1 101)) ∙
       ap (drop (width_of (e + 1))) (row_from_lem e (omega arith) ∙ one_more text (e + 1) (omega arith)) ∙
       drop_at (text (e + 1)) (row_from text (e + 1 + 1) (101 + 1 - (e + 1 + 1))) (width_of (e + 1)) (wide (e + 1)))
 
@@ -92,7 +92,7 @@ module _ (text : ℕ → List ℕ) (wide : (e : ℕ) → length (text e) ≡ wid
       let next : start_of (suc e) ≡ start_of e + width_of e = rw add-one at (start_next e) in
       let rest = measured n (suc e) in
       let both : length (text e ++ row_from text (suc e) n) ≡ width_of e + length (row_from text (suc e) n) =
-      length_append (text e) (row_from text (suc e) n) ∙ ap (λ (k : ℕ). k + length (row_from text (suc e) n)) (wide e) in
+      length-append (text e) (row_from text (suc e) n) ∙ ap (λ (k : ℕ). k + length (row_from text (suc e) n)) (wide e) in
       rw (add-suc, ← suc-add) (omega (arith, next, rest, both))
 
   pub row_length : length (row_from text 1 101) ≡ 159

@@ -1,14 +1,14 @@
 -- Spelling and reading undo each other, once for every base. Assumes nothing.
 use mathlib.Core.Path.{◌≡◌, refl, sym, ap, ◌∙◌}
 use mathlib.Core.Bool.{true}
-use mathlib.Core.List.{List, [], ◌∷◌, ◌++◌, append_assoc, append_nil}
+use mathlib.Core.List.{List, [], ◌∷◌, ◌++◌, append_assoc, append-nil}
 use Prim.Native.Nat.{ℕ, zero, suc, ◌+◌, ◌-◌, ◌*◌, ◌/◌, ◌%◌, ◌^◌, ◌<◌, ◌≤◌}
 use native.Mathlib.Nat.{add-zero, div-add-mod', div-lt_iff_lt-mul, add-sub_cancel_left, not-suc-le-zero, pow-suc, pow-zero, pow-le-pow_right}
 use native.Mathlib.Numerals.{add-one}
 use native.Mathlib.Omega.{arith}
 use lib.Dec.{lit<}
 use lib.Arith.{digits_div, digits_mod}
-use lib.ListN.{length, get_or, take, drop, set, length_append, take-append-drop}
+use lib.ListN.{length, get_or, take, drop, set, length-append, take-append-drop}
 use lib.Seq.{take-suc, take_all, get_or-take, take-set-le, set_split, length-take-le, drop_at}
 use Rattle.text.specs.Bytes.{every, between, blank, value_from}
 use Rattle.text.proofs.Ways.{and_first, and_second}
@@ -28,7 +28,7 @@ module _ (base nought : ℕ) where
   pub spelled_length : (w n : ℕ) → length (spelled base nought w n) ≡ w
   unfolding spelled
   spelled_length zero n = refl
-  spelled_length (suc w) n = length_append (spelled base nought w (n / base)) _ ∙ rw (spelled_length w (n / base), add-one w)
+  spelled_length (suc w) n = length-append (spelled base nought w (n / base)) _ ∙ rw (spelled_length w (n / base), add-one w)
 
   module _ (positive : 0 < base) where
     -- what is spelled with room enough reads as it was
@@ -64,7 +64,7 @@ module _ (at : ℕ) (s before : List ℕ) (b : ℕ) where
       let tail : drop (at + length s) (set before (at + length s) b) ≡ b ∷ drop (suc (at + length s)) before =
       ap (drop (at + length s)) (set_split before (at + length s) b h) ∙
       drop_at (take (at + length s) before) (b ∷ drop (suc (at + length s)) before) (at + length s) (length-take-le (at + length s) before (omega arith)) in
-      let longer : at + length (s ++ b ∷ []) ≡ suc (at + length s) = omega (arith, length_append s (b ∷ [])) in
+      let longer : at + length (s ++ b ∷ []) ≡ suc (at + length s) = omega (arith, length-append s (b ∷ [])) in
       rw (take-set-le at before (at + length s) b (omega arith), tail, longer) (simp append_assoc)
 
 -- a turn of the loop that spells, its end, and its beginning
@@ -82,7 +82,7 @@ module _ (base nought at : ℕ) where
 
   pub put_end : (k n : ℕ) (buffer : List ℕ) → k ≤ 0 → buffer ≡ placed at (spelled base nought k n) buffer
   unfolding spelled
-  put_end zero n buffer h = sym (rw (append_nil, add-zero) (take-append-drop at buffer))
+  put_end zero n buffer h = sym (rw (append-nil, add-zero) (take-append-drop at buffer))
   put_end (suc k) n buffer h = absurd (not-suc-le-zero h)
 
 -- what six bytes can say, before a seventh is taken

@@ -1,7 +1,7 @@
 -- The lines of elements one after the other, and two texts compared byte by byte. Assumes nothing.
 use mathlib.Core.Path.{◌≡◌, refl, sym, ap, ap₂, ◌∙◌}
 use mathlib.Core.Bool.{Bool, true, false, ◌&&◌}
-use mathlib.Core.List.{List, [], ◌∷◌, ◌++◌, append_assoc, append_nil}
+use mathlib.Core.List.{List, [], ◌∷◌, ◌++◌, append_assoc, append-nil}
 use Prim.Native.Nat.{ℕ, zero, suc, ◌+◌, ◌*◌, ◌<◌, ◌≤◌}
 use native.Mathlib.Nat.{add-zero}
 use native.Mathlib.Numerals.{add-one}
@@ -24,7 +24,7 @@ lines_next : (count : List ℕ) (e k : ℕ) (rs : List Reading) → k < length r
     reading_lines count e (take k rs) ++ reading_line count (e + k) (get_or rs k Missing) ≡ reading_lines count e (take (suc k) rs)
 unfolding reading_lines
 lines_next count e k [] h = absurd (omega arith)
-lines_next count e zero (r ∷ rs) h = ap (λ (i : ℕ). reading_line count i r) (add-zero e) ∙ sym (append_nil (reading_line count e r))
+lines_next count e zero (r ∷ rs) h = ap (λ (i : ℕ). reading_line count i r) (add-zero e) ∙ sym (append-nil (reading_line count e r))
 lines_next count e (suc k) (r ∷ rs) h =
     let place : e + suc k ≡ e + 1 + k = omega arith in
     append_assoc (reading_line count e r) (reading_lines count (e + 1) (take k rs)) _ ∙

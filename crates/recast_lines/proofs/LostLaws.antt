@@ -5,7 +5,7 @@ use mathlib.Core.List.{List, [], ◌∷◌, ◌++◌, append_assoc}
 use Prim.Native.Nat.{ℕ, zero, suc, ◌+◌, ◌-◌, ◌*◌, ◌/◌, ◌%◌, ◌^◌, ◌<◌, ◌≤◌}
 use native.Mathlib.Nat.{mod-eq_of_lt}
 use native.Mathlib.Omega.{arith}
-use lib.ListN.{length, length_append}
+use lib.ListN.{length, length-append}
 use lib.Dec.{eqb, lit≤}
 use lib.Bits.{bit_and}
 use lib.Count.{count_trailing_zeros}
@@ -31,7 +31,7 @@ numbers_short k zero w h = omega arith
 numbers_short k (suc n) w h = by (eqb (w % 2) 1) (elements_in (suc k) n (w / 2)) (numbers_short (suc k) n (w / 2) (omega arith))
   where
     by : (x : Bool) (xs : List ℕ) → length (numbers xs) ≤ 4 * n → length (numbers (cond x (k ∷ xs) xs)) ≤ 4 * suc n
-    by true xs l = omega (arith, length_append (numbered (bytes_of " ") k) (numbers xs), length_append (bytes_of " ") (decimal k), small_number k (omega arith))
+    by true xs l = omega (arith, length-append (numbered (bytes_of " ") k) (numbers xs), length-append (bytes_of " ") (decimal k), small_number k (omega arith))
     by false xs l = omega arith
 
 -- the elements of a word: the lowest, and then those of the word without its lowest bit
@@ -50,7 +50,7 @@ module _ (first w : ℕ) where
 
     pub told_some : 1 ≤ length (told first w)
     unfolding bytes_of
-    told_some = omega (arith, ap length told_next, length_append (numbered (bytes_of " ") (first + count_trailing_zeros 64 w)) (told first (bit_and w (w - 1))))
+    told_some = omega (arith, ap length told_next, length-append (numbered (bytes_of " ") (first + count_trailing_zeros 64 w)) (told first (bit_and w (w - 1))))
 
   -- n bits of it take up four bytes each at most
   module _ (n m : ℕ) (e : n + m ≡ 64) (below : w < 2 ^ n) (low : first ≤ 65) where

@@ -1,11 +1,11 @@
 -- A copy of the record in the columns of the target: the front that every edition has, and behind it the rest of the record or blanks. Assumes nothing.
 use mathlib.Core.Path.{◌≡◌, sym, ap, ◌∙◌}
 use mathlib.Core.Bool.{true, false}
-use mathlib.Core.List.{List, [], ◌++◌, append_nil}
+use mathlib.Core.List.{List, [], ◌++◌, append-nil}
 use Prim.Native.Nat.{ℕ, ◌+◌, ◌-◌}
 use native.Mathlib.Omega.{arith}
 use borrow.Rule.Slice.PartMut.{put_mid}
-use lib.ListN.{length, take, drop, length_append, length-drop, take-append-drop, drop_of_length-le}
+use lib.ListN.{length, take, drop, length-append, length-drop, take-append-drop, drop_of_length-le}
 use lib.Seq.{length-take-le, take-length, take_all, take_at, drop_at, take-append-le}
 use Rattle.numerals.specs.Numerals.{spelled}
 use Rattle.layout.specs.declared.Edition.{Edition}
@@ -18,7 +18,7 @@ use Rattle.recasting.proofs.WidenLaws.{widened_long}
 
 -- a copy as long as what it is copied into
 pub whole_copy : (s d after : List ℕ) → length s ≡ length d → after ≡ take (length s) s ++ drop (length s) d → after ≡ s
-whole_copy s d after h f = f ∙ ap (λ (t : List ℕ). t ++ drop (length s) d) (take-length s) ∙ ap (λ (t : List ℕ). s ++ t) (drop_of_length-le d {i = length s} (omega arith)) ∙ append_nil s
+whole_copy s d after h f = f ∙ ap (λ (t : List ℕ). t ++ drop (length s) d) (take-length s) ∙ ap (λ (t : List ℕ). s ++ t) (drop_of_length-le d {i = length s} (omega arith)) ∙ append-nil s
 
 module _ (from : Edition) (xs : List ℕ) (full : length xs ≡ length_of from) where
   -- what stands behind the front
@@ -34,7 +34,7 @@ module _ (from : Edition) (xs : List ℕ) (full : length xs ≡ length_of from) 
   rest_own f =
       let n : length xs ≡ 159 = full ∙ other_length from f in
       let m : 159 - length xs ≡ 0 = omega arith in
-      take_all 28 (drop 131 xs) (rw length-drop (omega arith)) ∙ ap (drop 131) (sym (append_nil xs) ∙ ap (λ (k : ℕ). xs ++ blanks k) (sym m))
+      take_all 28 (drop 131 xs) (rw length-drop (omega arith)) ∙ ap (drop 131) (sym (append-nil xs) ∙ ap (λ (k : ℕ). xs ++ blanks k) (sym m))
 
   pub own_long : is_first from ≡ false → length (take 28 (drop 131 xs)) ≡ 28
   own_long f = length-take-le 28 (drop 131 xs) (rw length-drop (omega (arith, full, other_length from f)))
@@ -52,12 +52,12 @@ module _ (from : Edition) (xs : List ℕ) (full : length xs ≡ length_of from) 
     copied = copy ∙ ap (λ (t : List ℕ). t ++ drop (length (take 131 xs)) row) (take-length (take 131 xs)) ∙ ap (λ (n : ℕ). take 131 xs ++ drop n row) front_long
 
     pub mid_long : length mid ≡ length_of to
-    mid_long = ap length copied ∙ length_append (take 131 xs) (drop 131 row) ∙ rw length-drop (omega (arith, front_long, shortest to))
+    mid_long = ap length copied ∙ length-append (take 131 xs) (drop 131 row) ∙ rw length-drop (omega (arith, front_long, shortest to))
 
     pub filled_first : is_first to ≡ true → mid ≡ take (length_of to) (widened xs)
     filled_first f =
         let n : length_of to ≡ 131 = first_length to f in
-        copied ∙ ap (λ (t : List ℕ). take 131 xs ++ t) (drop_of_length-le row {i = 131} (omega arith)) ∙ append_nil (take 131 xs) ∙ sym front ∙ ap (λ (k : ℕ). take k (widened xs)) (sym n)
+        copied ∙ ap (λ (t : List ℕ). take 131 xs ++ t) (drop_of_length-le row {i = 131} (omega arith)) ∙ append-nil (take 131 xs) ∙ sym front ∙ ap (λ (k : ℕ). take k (widened xs)) (sym n)
 
     module _ (f : is_first to ≡ false) where
       pub rest_long : length (take (length mid - 131) (drop 131 mid)) ≡ 28
@@ -66,6 +66,6 @@ module _ (from : Edition) (xs : List ℕ) (full : length xs ≡ length_of from) 
       pub filled_other : (rest : List ℕ) → rest ≡ drop 131 (widened xs) → put_mid 131 (length mid - 131) mid rest ≡ take (length_of to) (widened xs)
       filled_other rest g =
           let none : drop (length mid - 131) (drop 131 mid) ≡ [] = drop_of_length-le (drop 131 mid) {i = length mid - 131} (rw length-drop (omega arith)) in
-          ap (λ (t : List ℕ). take 131 mid ++ (rest ++ t)) none ∙ ap (λ (t : List ℕ). take 131 mid ++ t) (append_nil rest ∙ g) ∙
+          ap (λ (t : List ℕ). take 131 mid ++ (rest ++ t)) none ∙ ap (λ (t : List ℕ). take 131 mid ++ t) (append-nil rest ∙ g) ∙
           ap (λ (t : List ℕ). t ++ drop 131 (widened xs)) (ap (take 131) copied ∙ take_at (take 131 xs) (drop 131 row) 131 front_long ∙ sym front) ∙
           take-append-drop 131 (widened xs) ∙ sym (take_all (length_of to) (widened xs) (omega (arith, widened_long from xs full, other_length to f)))

@@ -6,7 +6,7 @@ use Prim.Native.Nat.{ℕ, zero, suc, ◌+◌, ◌-◌, ◌<◌, ◌≤◌}
 use native.Mathlib.Omega.{arith}
 use borrow.Author.Tests.{ne_eqb, leb-true, leb-false}
 use lib.Dec.{leb}
-use lib.ListN.{length, take, drop, length_append}
+use lib.ListN.{length, take, drop, length-append}
 use lib.Seq.{take_at, drop-append-add}
 use Rattle.text.specs.Bytes.{every, between, blank}
 use Rattle.text.proofs.Ways.{and_first, and_second}
@@ -40,13 +40,13 @@ blanks_long n = spelled_length 1 32 n 0
 module _ (ed : Edition) (xs : List ℕ) (full : length xs ≡ length_of ed) where
   pub widened_long : length (widened xs) ≡ 159
   unfolding widened
-  widened_long = length_append xs (blanks (159 - length xs)) ∙ ap (λ (n : ℕ). length xs + n) (blanks_long (159 - length xs)) ∙ omega (arith, most ed)
+  widened_long = length-append xs (blanks (159 - length xs)) ∙ ap (λ (n : ℕ). length xs + n) (blanks_long (159 - length xs)) ∙ omega (arith, most ed)
 
   -- an element of its own
   pub own_kept : (e : ℕ) → e ≤ last_of ed → text_of e (widened xs) ≡ text_of e xs
   unfolding text_of widened
   own_kept e h =
-      sym (part_of_front (start_of e) (width_of e) (length xs) (xs ++ blanks (159 - length xs)) (omega (arith, ends ed e h)) (omega (arith, length_append xs (blanks (159 - length xs))))) ∙
+      sym (part_of_front (start_of e) (width_of e) (length xs) (xs ++ blanks (159 - length xs)) (omega (arith, ends ed e h)) (omega (arith, length-append xs (blanks (159 - length xs))))) ∙
       ap (λ (t : List ℕ). take (width_of e) (drop (start_of e) t)) (take_at xs (blanks (159 - length xs)) (length xs) refl)
 
   -- an element that its edition lacks

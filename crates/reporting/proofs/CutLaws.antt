@@ -6,7 +6,7 @@ use Prim.Native.Nat.{ℕ, ◌<◌}
 use native.Mathlib.Omega.{arith}
 use borrow.Author.Tests.{leb-true, leb-false, ltb-true, ltb-false, ne_eqb}
 use lib.Dec.{leb, ltb}
-use lib.ListN.{length, take, length_append}
+use lib.ListN.{length, take, length-append}
 use lib.Seq.{take_all, take-append-le, length-take-le}
 use Rattle.refusals.specs.declared.Refusal.TheVariants.{Length}
 use Rattle.layout.specs.declared.Named.{Named}
@@ -84,7 +84,7 @@ kept_cut held b = by (ltb (length held) 160) refl
     by : (x : Bool) → ltb (length held) 160 ≡ x → kept (take 160 held) b ≡ take 160 (held ++ b ∷ [])
     by true e =
         let short = ltb-true (length held) 160 e in
-        rw (take_all 160 held (omega arith), e) (sym (take_all 160 (held ++ b ∷ []) (omega (arith, length_append held (b ∷ [])))))
+        rw (take_all 160 held (omega arith), e) (sym (take_all 160 (held ++ b ∷ []) (omega (arith, length-append held (b ∷ [])))))
     by false e =
         let long = ltb-false (length held) 160 e in
         rw (take-append-le 160 held (b ∷ []) long, length-take-le 160 held long)

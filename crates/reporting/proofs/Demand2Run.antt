@@ -7,13 +7,13 @@
 --                     whether anything was refused
 use mathlib.Core.Path.{◌≡◌, refl, sym, ap, ap₂, ◌∙◌}
 use mathlib.Core.Bool.{Bool, true, false, cond, ◌||◌}
-use mathlib.Core.List.{List, [], ◌∷◌, ◌++◌, append_assoc, append_nil, flatten}
+use mathlib.Core.List.{List, [], ◌∷◌, ◌++◌, append_assoc, append-nil, flatten}
 use Prim.Native.Nat.{ℕ, ◌+◌, ◌^◌, ◌<◌, ◌≤◌}
 use native.Mathlib.Nat.{add-zero}
 use native.Mathlib.Omega.{arith}
 use borrow.Author.Tests.{lt-ltb, ltb-false}
 use lib.Dec.{eqb, ltb}
-use lib.ListN.{length, take, length_append}
+use lib.ListN.{length, take, length-append}
 use Rattle.layout.specs.declared.Named.{Named}
 use Rattle.layout.specs.declared.Named.TheVariants.{Known, Unknown}
 use Rattle.wording.proofs.PutLaws.{front}
@@ -107,7 +107,7 @@ lines_few (b ∷ input) held = by (eqb b 10) (lines_few input []) (lines_few inp
     by : (x : Bool) → length (lines_from [] input) ≤ 0 + length input → length (lines_from (held ++ b ∷ []) input) ≤ length (held ++ b ∷ []) + length input →
         length (cond x (held ∷ lines_from [] input) (lines_from (held ++ b ∷ []) input)) ≤ length held + length (b ∷ input)
     by true here there = omega arith
-    by false here there = omega (arith, length_append held (b ∷ []))
+    by false here there = omega (arith, length-append held (b ∷ []))
 
 -- counts that do not reach the last u64
 more : (n : ℕ) → n + 1 < 2 ^ 64 → one_more n ≡ n + 1
@@ -163,7 +163,7 @@ closed_told (line ∷ lines) n m = closed_told lines n m
 -- what follows a first line that asks
 first_told : (w : Named) (lines : List (List ℕ)) → length lines < 2 ^ 64 → opening w ++ told_from (ledger (opened w) 0 0) lines ≡ recast_in w lines
 first_told (Known edition) lines h = ap (λ (t : List ℕ). heading edition ++ t) (records_told (Recast edition) lines 0 0 (omega arith) (omega arith))
-first_told Unknown lines h = rw (closed_told lines 0 0).0 (append_nil not_held)
+first_told Unknown lines h = rw (closed_told lines 0 0).0 (append-nil not_held)
 
 first_refused : (w : Named) (lines : List (List ℕ)) → has_refused (after_from (ledger (opened w) 0 0) lines) ≡ refused_in w lines
 unfolding has_refused

@@ -1,7 +1,7 @@
 -- A piece that is fed line after line: what is taken of it so far, and what is said of that. Assumes nothing.
 use mathlib.Core.Path.{◌≡◌, refl, sym, ap, ◌∙◌}
 use mathlib.Core.Bool.{Bool, true, false}
-use mathlib.Core.List.{List, [], ◌∷◌, ◌++◌, append_assoc, append_nil}
+use mathlib.Core.List.{List, [], ◌∷◌, ◌++◌, append_assoc, append-nil}
 use Prim.Native.Nat.{ℕ, zero, suc, ◌+◌, ◌-◌, ◌<◌, ◌≤◌, min}
 use native.Mathlib.Numerals.{add-one}
 use native.Mathlib.Omega.{arith}
@@ -27,13 +27,13 @@ use Rattle.reporting.proofs.FinishLaws.{held_view}
 module _ (l : Ledger) where
   held_state : (held rest : List ℕ) → state_after (state l (take 160 held)) (take (index_of 10 rest) rest) ≡ state l (take 160 (held ++ take (index_of 10 rest) rest))
   unfolding index_of index_after state_after
-  held_state held [] = rw (append_nil)
+  held_state held [] = rw (append-nil)
   held_state held (b ∷ rest) = by (eqb b 10) refl (held_state (held ++ b ∷ []) rest)
     where
       by : (x : Bool) → eqb b 10 ≡ x →
           state_after (state l (take 160 (held ++ b ∷ []))) (take (index_of 10 rest) rest) ≡ state l (take 160 (held ++ b ∷ [] ++ take (index_of 10 rest) rest)) →
           state_after (state l (take 160 held)) (take (index_after x (index_of 10 rest)) (b ∷ rest)) ≡ state l (take 160 (held ++ take (index_after x (index_of 10 rest)) (b ∷ rest)))
-      by true e there = rw (append_nil)
+      by true e there = rw (append-nil)
       by false e there =
           let one : step (state l (take 160 held)) b ≡ state l (take 160 (held ++ b ∷ [])) = rw (e, kept_cut held b) in
           ap (λ (s : State). state_after s (take (index_of 10 rest) rest)) one ∙ there ∙ ap (λ (t : List ℕ). state l (take 160 t)) (append_assoc held (b ∷ []) _)
@@ -110,7 +110,7 @@ module _ {s : State} {piece before now held : List ℕ} {l : Ledger} {count at w
       ap (λ (t : State). said_by s (take at piece) ++ said_by t line) f.after ∙
       ap (λ (k : ℕ). said_by s (take at piece) ++ said_by (state l (take count held)) (take k rest)) index ∙
       ap (λ (t : List ℕ). said_by s (take at piece) ++ t) (held_said l (take count held) rest) ∙
-      append_nil (said_by s (take at piece))
+      append-nil (said_by s (take at piece))
 
   -- the bytes are kept
   pub so_far_kept : {more : List ℕ} {total : ℕ} → total ≤ 160 → length more ≡ 160 → take total more ≡ take 160 (take count held ++ line) →
@@ -147,7 +147,7 @@ module _ {s : State} {piece before now held : List ℕ} {l : Ledger} {count at w
         said_append s (take end piece) (10 ∷ []) ∙
         ap (λ (t : State). said_by s (take end piece) ++ said_by t (10 ∷ [])) state_span ∙
         ap (λ (t : List ℕ). t ++ (said_of l (take 160 (take count held ++ line)) ++ [])) said_span ∙
-        ap (λ (t : List ℕ). said_by s (take at piece) ++ t) (append_nil _)
+        ap (λ (t : List ℕ). said_by s (take at piece) ++ t) (append-nil _)
 
     pub so_far_line : {more later : List ℕ} {told : Told} → Tells l (take 160 (take count held ++ line)) written now later told → length later ≡ length now →
         length more ≡ 160 → told.end ≤ length before → SoFar s piece before later more told.ledger 0 (end + 1) told.end

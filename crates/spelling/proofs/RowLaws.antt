@@ -1,6 +1,6 @@
 -- The loop that spells all readings: what stands in front and what is left to spell are the whole row. Assumes nothing.
 use mathlib.Core.Path.{◌≡◌, sym, ap, ◌∙◌}
-use mathlib.Core.List.{List, [], ◌++◌, append_assoc, append_nil}
+use mathlib.Core.List.{List, [], ◌++◌, append_assoc, append-nil}
 use Prim.Native.Nat.{ℕ, ◌+◌, ◌-◌, ◌<◌, ◌≤◌}
 use native.Mathlib.Omega.{arith}
 use lib.ListN.{length, take}
@@ -41,7 +41,7 @@ module _ (ed : Edition) (rs : List Reading) (whole row : List ℕ) (at e : ℕ) 
       let last : e ≡ 102 = omega arith in
       let none : 101 + 1 - e ≡ 0 = omega arith in
       let full : at ≡ 159 = f ∙ ap start_of last ∙ filled Four in
-      sym (append_nil row) ∙ ap (λ (t : List ℕ). t ++ []) (sym (take_all at row (omega arith))) ∙ ap (λ (n : ℕ). take at row ++ row_for ed rs e n) (sym none) ∙ inv
+      sym (append-nil row) ∙ ap (λ (t : List ℕ). t ++ []) (sym (take_all at row (omega arith))) ∙ ap (λ (n : ℕ). take at row ++ row_for ed rs e n) (sym none) ∙ inv
 
 pub within : (at w e : ℕ) → at ≡ start_of e → w ≡ width_of e → e ≤ 101 → (at + w ≡ start_of (e + 1)) × (at + w ≤ 159)
 within at w e f g h =

@@ -3,7 +3,7 @@ use mathlib.Core.Path.{◌≡◌, refl, sym, ap, ◌∙◌}
 use mathlib.Core.List.{List, [], ◌++◌}
 use Prim.Native.Nat.{ℕ, ◌+◌, ◌≤◌}
 use native.Mathlib.Omega.{arith}
-use lib.ListN.{length, take, length_append}
+use lib.ListN.{length, take, length-append}
 use Rattle.numerals.specs.Numerals.{placed}
 use Rattle.numerals.proofs.PlacedLaws.{placed_front, placed_none, placed_length, placed_twice}
 use Rattle.wording.specs.Puts.{Puts}
@@ -15,7 +15,7 @@ also {t} {u} {at} {before} {after} {last} {next} {end} p q h =
     let room : at + length t + length u ≤ length before = omega (arith, p.ends, q.ends) in
     record {
       stands = q.stands ∙ rw (p.ends, p.stands) (placed_twice at t u before room);
-      ends = omega (arith, p.ends, q.ends, length_append t u);
+      ends = omega (arith, p.ends, q.ends, length-append t u);
     }
 
 -- a text by another name
@@ -45,7 +45,7 @@ module _ {whole : List ℕ} {at : ℕ} {before : List ℕ} {end : ℕ} {now : Li
   pub left_put : {t rest left : List ℕ} {next : ℕ} {later : List ℕ} → Left whole at before left end now → left ≡ t ++ rest → Puts t end now later next →
       at + length whole ≤ length before → Left whole at before rest next later
   left_put {t} {rest} {left} {next} {later} l e p h =
-      let sum : length left ≡ length t + length rest = ap length e ∙ length_append t rest in
+      let sum : length left ≡ length t + length rest = ap length e ∙ length-append t rest in
       let room : end + length t + length rest ≤ length now = omega (arith, l.ending, l.long) in
       record {
         placing = rw (p.ends, p.stands) (placed_twice end t rest now room ∙ ap (λ (s : List ℕ). placed end s now) (sym e) ∙ l.placing);

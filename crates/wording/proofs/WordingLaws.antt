@@ -8,7 +8,7 @@ use native.Mathlib.Numerals.{add-one}
 use native.Mathlib.Omega.{arith}
 use borrow.Author.Tests.{ltb-true, ltb-false, lt-ltb, le-ltb}
 use lib.Dec.{ltb, lit<}
-use lib.ListN.{length, get_or, drop, set, length_append, drop_of_length-le}
+use lib.ListN.{length, get_or, drop, set, length-append, drop_of_length-le}
 use lib.Seq.{take-suc-set, drop-set-lt, drop-cons}
 use Rattle.numerals.proofs.PlacedLaws.{placed_none}
 use Rattle.numerals.specs.Numerals.{spelled, placed}
@@ -52,7 +52,7 @@ module _ (k n : ℕ) where
   one_long h = ap length (one_digit h)
 
   pub more_long : 10 ≤ n → length (decimal_from (suc k) n) ≡ suc (length (decimal_from k (n / 10)))
-  more_long h = ap length (more_digits h) ∙ length_append (decimal_from k (n / 10)) _ ∙ add-one _
+  more_long h = ap length (more_digits h) ∙ length-append (decimal_from k (n / 10)) _ ∙ add-one _
 
 -- none has more digits than were asked for
 short_from : (k n : ℕ) → length (decimal_from k n) ≤ k

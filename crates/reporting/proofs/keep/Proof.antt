@@ -3,7 +3,7 @@ use Prim.Native.Nat.{ℕ, ◌+◌, ◌-◌, ◌≤◌}
 use Rattle.reporting.proofs.KeepLaws.{keep_end, keep_turn}
 use borrow.Author.Rules.{rules}
 use lib.ListN.{length, length-set, take}
-use mathlib.Core.List.{◌++◌, append_nil}
+use mathlib.Core.List.{◌++◌, append-nil}
 use native.Mathlib.Nat.{add-zero}
 use mathlib.Core.Path.{◌∙◌, ◌≡◌, ap, refl, sym}
 use native.Mathlib.Omega.{arith}
@@ -17,7 +17,7 @@ abbrev decreases-loop : tie.decreases-loop
 decreases-loop held₀ count bytes n i₀ held i = n - i
 
 loop-holds : tie.Need-loop-init invariant-loop decreases-loop
-loop-holds c = (omega arith, (refl, rw (add-zero, append_nil)))
+loop-holds c = (omega arith, (refl, rw (add-zero, append-nil)))
 
 shared-slice-read-held : tie.Need-shared-slice-read-held invariant-loop decreases-loop
 shared-slice-read-held c = omega (arith, c.before.before.before.least.ensures)

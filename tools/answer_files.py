@@ -300,7 +300,7 @@ def convert(path, f, crate, fun):
                 f.goal = new
                 right, _ = Turner(f, {"c": (place, "c")}, funs, renamed).turn(term)
                 f.goal = None
-                answers.append(f"pub {new} : goal.{new}\n{new} c = {right}")
+                answers.append("\n".join([f"pub {new} : goal.{new}"] + [l for l in lines if l.startswith("unfolding")] + [f"{new} c = {right}"]))
             continue
         body_at = next(k for k, l in enumerate(lines) if k and re.match(re.escape(name) + r"(\s|=|$)", l))
         signature = "\n".join(lines[:body_at])

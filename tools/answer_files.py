@@ -76,7 +76,7 @@ class Function:
         while fields and fields[0] == "before":
             up = self.parent(i)
             if up is None:
-                self.said.append("too many .before")
+                fields = [x for k, x in enumerate(fields) if x != "before" or any(y != "before" for y in fields[:k])]
                 break
             i, n, fields = up, n + 1, fields[1:]
         if not fields:
@@ -92,9 +92,15 @@ class Function:
             return ".".join([base, step] + rest), None
         j = self.find_step(i, step)
         if j is None:
+            there = [k for k, p in enumerate(self.places) if norm(p[2][0]) == norm(step)]
+            j = there[0] if there else None
+        if j is None:
             self.said.append(f"no step {step} at {self.places[i][0]}")
             return ".".join([base + ".before" * n, step] + rest), None
         new = self.places[j][2][1]
+        if rest[:1] == ["taken"]:
+            rest = ["false" if re.match(r"(after_loop|else)", norm(self.places[j][0])) else "true"] + rest[1:]
+        rest = [dict(self.places[j][4]).get(r, r) for r in rest[:1]] + rest[1:]
         arm = self.arms[j]
         if arm:
             best = None
@@ -330,8 +336,9 @@ def convert(path, f, crate, fun):
             continue
         if m:
             old = norm(m.group(2))
-            if old not in f.needs and old.startswith("overflow_"):
-                old = old[len("overflow_") :]
+            for later, earlier in (("overflow_", ""), ("slice_bounds_", "part_")):
+                if old not in f.needs and old.startswith(later):
+                    old = earlier + old[len(later) :]
             if old not in f.needs:
                 f.said.append("no goal " + m.group(2))
                 answers.append("\n".join("-- LEFT " + l for l in lines))
@@ -345,7 +352,7 @@ def convert(path, f, crate, fun):
             right, _ = t.turn(right)
             f.goal = None
             # a test of `!x` says of x what it says
-            right = re.sub(r"not-(?:true|false) _ (c\S*\.if-not-[^\s()]+)", r"\1", right)
+            right = re.sub(r"not-(?:true|false) _ (c\S*?\.if-not-[^\s()]+?)-raw\b", r"\1", right)
             goals_used = True
             labels = f.asked.get(old)
             if labels and len(labels) > 1:

@@ -88,7 +88,9 @@ class Function:
         base = re.sub(r"(\.before)+$", "", base)
         base = re.sub(r"^\(goal\.at\.\S+ c\)\.\S+$", "c", base)
         n = 0
-        if step in START:
+        rest = [x.replace("-", "_") for x in rest]
+        if norm(step) in START:
+            step = norm(step)
             return ".".join([base, step] + rest), None
         j = self.find_step(i, step)
         if j is None:

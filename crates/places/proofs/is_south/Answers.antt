@@ -1,0 +1,23 @@
+-- `places::is_south` meets its contract. Assumes nothing.
+use Prim.Native.Nat.{ℕ}
+use Rattle.layout.specs.declared.Edition.{Edition}
+use Rattle.places.specs.Places.{south}
+use borrow.Author.Rules.{rules}
+use mathlib.Core.Path.{◌∙◌, ◌≡◌, ap, sym}
+use Rattle.places.proofs.is_south.Goals as goal
+
+-- the edition that an arm was taken at
+at_edition : {a b : Edition} (digit : ℕ) → a ≡ b → south b digit ≡ south a digit
+at_edition digit e = sym (ap (λ (ed : Edition). south ed digit) e)
+
+pub returns-in-One : goal.returns-in-One
+unfolding south
+returns-in-One c = at_edition _ c.in-One.is
+
+pub returns-in-Three : goal.returns-in-Three
+unfolding south
+returns-in-Three c = c.is_among.ensures ∙ at_edition _ c.in-Three.is
+
+pub returns-in-Four : goal.returns-in-Four
+unfolding south
+returns-in-Four c = c.is_among-in-Four.ensures ∙ at_edition _ c.in-Four.is

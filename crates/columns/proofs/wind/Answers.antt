@@ -1,16 +1,12 @@
--- `columns::rain` meets its contract. Assumes nothing.
+-- `columns::wind` meets its contract. Assumes nothing.
 use mathlib.Core.Path.{refl}
 use Rattle.layout.specs.Page.{page}
 use Rattle.layout.specs.declared.Edition.TheVariants.{One, Three, Four}
 use Rattle.columns.specs.Tables.{cells, cells_from, cell_of, bonds, bonds_from, inside, after}
 use Rattle.columns.proofs.Ranges.{each}
 use borrow.Author.Rules.{rules}
-use Rattle.columns.proofs.rain.Statement.{statement}
-use Rattle.columns.proofs.rain.Tie as tie
+use Rattle.columns.proofs.wind.Goals as goal
 
-returns : tie.Need-returns
+pub returns : goal.returns
 unfolding cells cells_from cell_of bonds bonds_from inside after page
 returns c = λ z. each _ (c.part.ensures z One refl) (c.part.ensures z Three refl) (c.part.ensures z Four refl)
-
-pub rain-spec : {M : Type 1} → statement M
-rain-spec = tie.close (tie.spec (λ c κs. search rules) returns)

@@ -6,14 +6,10 @@ use Rattle.layout.specs.declared.Edition.TheVariants.{One}
 use Rattle.columns.specs.Tables.{cells, cells_from, cell_of, cell_at, bonds, bonds_from, bond_at, inside, after}
 use Rattle.columns.proofs.Ranges.{to_last}
 use borrow.Author.Rules.{rules}
-use Rattle.columns.proofs.one.last.Statement.{statement}
-use Rattle.columns.proofs.one.last.Tie as tie
+use Rattle.columns.proofs.one.last.Goals as goal
 
-returns : tie.Need-returns
+pub returns : goal.returns
 unfolding cells cells_from cell_of bonds bonds_from inside after page cell_at bond_at
 returns c =
-    let p = c.before.before.part in
+    let p = c.part in
     to_last One _ 114 130 p.result c.outside.result (omega arith) (λ z. p.ensures z One refl) (c.outside.ensures (omega arith) (omega arith)) refl
-
-pub last-spec : {M : Type 1} → statement M
-last-spec = tie.close (tie.spec (λ c κs. search rules) (λ c. search rules) (λ c. search rules) (λ c κs. search rules) returns)

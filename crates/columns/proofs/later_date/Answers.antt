@@ -4,12 +4,8 @@ use Rattle.layout.specs.Page.{page}
 use Rattle.layout.specs.declared.Edition.TheVariants.{Three, Four}
 use Rattle.columns.specs.Tables.{cells, cells_from, cell_of, bonds, bonds_from, inside, after}
 use borrow.Author.Rules.{rules}
-use Rattle.columns.proofs.later_date.Statement.{statement}
-use Rattle.columns.proofs.later_date.Tie as tie
+use Rattle.columns.proofs.later_date.Goals as goal
 
-returns : tie.Need-returns
+pub returns : goal.returns
 unfolding cells cells_from cell_of bonds bonds_from inside after page
 returns c = λ z. (c.part.ensures z Three refl, c.part.ensures z Four refl)
-
-pub later-date-spec : {M : Type 1} → statement M
-later-date-spec = tie.close (tie.spec (λ c κs. search rules) returns)

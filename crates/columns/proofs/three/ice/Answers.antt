@@ -4,12 +4,8 @@ use Rattle.layout.specs.Page.{page}
 use Rattle.layout.specs.declared.Edition.TheVariants.{Three}
 use Rattle.columns.specs.Tables.{cells, cells_from, cell_of, bonds, bonds_from, inside, after}
 use borrow.Author.Rules.{rules}
-use Rattle.columns.proofs.three.ice.Statement.{statement}
-use Rattle.columns.proofs.three.ice.Tie as tie
+use Rattle.columns.proofs.three.ice.Goals as goal
 
-returns : tie.Need-returns
+pub returns : goal.returns
 unfolding cells cells_from cell_of bonds bonds_from inside after page
 returns c = λ z. c.part.ensures z Three refl
-
-pub ice-spec : {M : Type 1} → statement M
-ice-spec = tie.close (tie.spec (λ c κs. search rules) returns)

@@ -1,15 +1,11 @@
--- `columns::four::ship` meets its contract. Assumes nothing.
+-- `columns::four::flags` meets its contract. Assumes nothing.
 use mathlib.Core.Path.{refl}
 use Rattle.layout.specs.Page.{page}
 use Rattle.layout.specs.declared.Edition.TheVariants.{Four}
 use Rattle.columns.specs.Tables.{cells, cells_from, cell_of, bonds, bonds_from, inside, after}
 use borrow.Author.Rules.{rules}
-use Rattle.columns.proofs.four.ship.Statement.{statement}
-use Rattle.columns.proofs.four.ship.Tie as tie
+use Rattle.columns.proofs.four.flags.Goals as goal
 
-returns : tie.Need-returns
+pub returns : goal.returns
 unfolding cells cells_from cell_of bonds bonds_from inside after page
 returns c = λ z. c.part.ensures z Four refl
-
-pub ship-spec : {M : Type 1} → statement M
-ship-spec = tie.close (tie.spec (λ c κs. search rules) returns)

@@ -6,14 +6,10 @@ use Rattle.layout.specs.declared.Edition.TheVariants.{Three}
 use Rattle.columns.specs.Tables.{cells, cells_from, cell_of, cell_at, bonds, bonds_from, bond_at, inside, after}
 use Rattle.columns.proofs.Ranges.{to_last}
 use borrow.Author.Rules.{rules}
-use Rattle.columns.proofs.three.last.Statement.{statement}
-use Rattle.columns.proofs.three.last.Tie as tie
+use Rattle.columns.proofs.three.last.Goals as goal
 
-returns : tie.Need-returns
+pub returns : goal.returns
 unfolding cells cells_from cell_of bonds bonds_from inside after page cell_at bond_at
 returns c =
-    let p = c.before.before.part in
+    let p = c.part in
     to_last Three _ 142 158 p.result c.outside.result (omega arith) (λ z. p.ensures z Three refl) (c.outside.ensures (omega arith) (omega arith)) refl
-
-pub last-spec : {M : Type 1} → statement M
-last-spec = tie.close (tie.spec (λ c κs. search rules) (λ c. search rules) (λ c. search rules) (λ c κs. search rules) returns)

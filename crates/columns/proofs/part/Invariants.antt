@@ -1,0 +1,15 @@
+use lib.Bits.{bit_or}
+use Prim.Native.Nat.{ℕ, ◌-◌, ◌<◌, ◌≤◌}
+use mathlib.Core.Path.{◌≡◌}
+use native.Mathlib.Omega.{arith}
+use borrow.Author.Count.{below_more, below_none}
+use Rattle.faults.proofs.Joins.{two_of}
+use Rattle.columns.proofs.Ranges.{Judged, judge, range_of}
+use borrow.Author.Rules.{rules}
+use Rattle.columns.proofs.part.Given as goal
+
+abbrev pub invariant-loop-k : goal.invariant-loop-k
+invariant-loop-k l = (l.k ≤ 16) × (l.bad ≡ 0 → (j : ℕ) → j < l.k → Judged l.line l.at l.low l.high l.also l.to l.bond j)
+
+abbrev pub decreases-loop-k : goal.decreases-loop-k
+decreases-loop-k l = 16 - l.k

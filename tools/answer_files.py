@@ -286,7 +286,7 @@ def convert(path, f, crate, fun):
             parsed.append((says, None, lines, None))
             continue
         parsed.append((says, m.group(1), lines, lines[0].startswith("abbrev")))
-    invariants, answers, imports, renamed, funs = [], [], [], {}, {}
+    invariants, answers, imports, renamed, funs, shared = [], [], [], {}, {}, []
     goals_used = False
     # the names of helpers first
     for says, name, lines, abbrev in parsed:
@@ -408,9 +408,13 @@ def convert(path, f, crate, fun):
         sig_new = first + ":" + t.turn(others[0])[0] if others else sig_t
         right, _ = Turner(f, env, funs, renamed).turn(right)
         sig_new = re.sub(r"^((?:abbrev |pub |unfoldable )*)(" + NAME + r")", lambda q: q.group(1) + renamed.get(q.group(2), q.group(2)), sig_new)
+        if "tie." not in sig:
+            shared.append((renamed.get(name, name), "\n".join(says + [sig_new, " ".join([renamed.get(name, name)] + args) + " =" + right])))
         answers.append("\n".join(says + [sig_new, " ".join([renamed.get(name, name)] + args) + " =" + right]))
     folder = os.path.dirname(path)
     if invariants:
+        said = "\n".join(invariants)
+        invariants = [text for name, text in shared if re.search(r"(?<![\w.'-])" + re.escape(name) + r"(?![\w'-])", said)] + invariants
         with open(os.path.join(folder, "Invariants.antt"), "w", encoding="utf-8") as o:
             o.write("\n".join(uses + [f"use {goals_path}Given as goal", "", "\n\n".join(invariants), ""]))
     if answers:

@@ -6,8 +6,7 @@ use lib.Dec.{leb}
 use Rattle.faults.specs.Faults.{no}
 use Rattle.glance.specs.Tests.{far, octant_near}
 use borrow.Author.Rules.{rules}
-use Rattle.glance.proofs.octant_off.Statement.{statement}
-use Rattle.glance.proofs.octant_off.Tie as tie
+use Rattle.glance.proofs.octant_off.Goals as goal
 
 reaching : (octant longitude : ℕ) {r : ℕ} → far octant ≡ true → r ≡ no (leb 809054256 longitude) → r ≡ no (octant_near octant longitude)
 unfolding octant_near
@@ -17,12 +16,8 @@ passing : (octant longitude : ℕ) {r : ℕ} → far octant ≡ false → r ≡ 
 unfolding octant_near
 passing octant longitude e g = rw e g
 
-returns : tie.Need-returns
-returns c = reaching _ _ (sym c.before.before.is_among.ensures ∙ c.before.if1.true) c.above.ensures
+pub returns-then-is_among : goal.returns-then-is_among
+returns-then-is_among c = reaching _ _ (sym c.is_among.ensures ∙ c.if-is_among.true) c.above.ensures
 
-returns-2 : tie.Need-returns-2
-returns-2 c = passing _ _ (sym c.before.before.is_among.ensures ∙ c.before.if1.false) c.above2.ensures
-
-pub octant-off-spec : {M : Type 1} → statement M
-octant-off-spec =
-    tie.close (tie.spec (λ c κs. search rules) (λ c κs. search rules) (λ c κs. search rules) returns returns-2)
+pub returns-else-is_among : goal.returns-else-is_among
+returns-else-is_among c = passing _ _ (sym c.is_among.ensures ∙ c.if-is_among.false) c.above-else-is_among.ensures

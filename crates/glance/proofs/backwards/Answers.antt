@@ -1,0 +1,9 @@
+-- `glance::backwards` meets its contract. Assumes nothing.
+use native.Mathlib.Omega.{arith}
+use Rattle.glance.specs.Tests.{last_highest}
+use borrow.Author.Rules.{rules}
+use Rattle.glance.proofs.backwards.Goals as goal
+
+pub returns : goal.returns
+unfolding last_highest
+returns c = omega arith

@@ -1,0 +1,28 @@
+-- `glance::courses_off` meets its contract. Assumes nothing.
+use native.Mathlib.Omega.{arith}
+use lib.Dec.{lit≤}
+use Rattle.faults.proofs.Joins.{two_of}
+use Rattle.text.specs.Bytes.{value_from}
+use Rattle.numerals.specs.Numerals.{spelled}
+use Rattle.layout.specs.declared.Edition.TheVariants.{Three}
+use Rattle.layout.specs.Page.{element, page}
+use Rattle.layout.proofs.RecordLaws.{ends}
+use Rattle.glance.specs.Limits.{limit_of}
+use Rattle.glance.specs.Sure.{All}
+use Rattle.glance.proofs.courses_off.Goals as goal
+
+pub off-requires : goal.off-requires
+off-requires c = omega (arith, ends Three 87 (lit≤ tt))
+
+pub off-requires-2 : goal.off-requires-2
+off-requires-2 c = omega (arith, ends Three 88 (lit≤ tt))
+
+pub off-requires-3 : goal.off-requires-3
+off-requires-3 c = omega (arith, ends Three 91 (lit≤ tt))
+
+pub off-requires-4 : goal.off-requires-4
+off-requires-4 c = omega (arith, ends Three 92 (lit≤ tt))
+
+pub returns : goal.returns
+unfolding All limit_of element page spelled value_from
+returns c = λ z. let r = two_of _ _ (two_of _ _ c.off.ensures c.off-2.ensures) (two_of _ _ c.off-3.ensures c.off-4.ensures) z in (r.0.0, (r.0.1, (r.1.0, (r.1.1, tt))))

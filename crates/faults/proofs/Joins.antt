@@ -1,5 +1,5 @@
 -- Tests that answer 0 where they pass: what `|` and `&` of two of them say, and that a 0 is a test that passed. Assumes nothing.
-use Rattle.std.proofs.Common.{◌≡◌, ℕ, Bool, true, false, not, ◌&&◌, ◌||◌, eqb, sym, refl, ap, ◌∙◌, arith}
+use Rattle.std.proofs.Common.{◌≡◌, ℕ, Bool, true, false, ◌&&◌, ◌||◌, eqb, refl, ap, ◌∙◌, arith}
 use mathlib.Core.Bool.{beq}
 use lib.Bits.{bit_and, bit_or}
 use Rattle.text.proofs.Bits.{or_left, or_right}

@@ -2,7 +2,6 @@
 use mathlib.Core.Path.{◌∙◌, sym}
 use Rattle.calendar.specs.Calendar.{last_day}
 use Rattle.calendar.proofs.Lengths.{has_30, has_31}
-use borrow.Author.Rules.{rules}
 use borrow.Author.Tests.{eq-eqb, ne_eqb}
 use Rattle.calendar.proofs.last_day.Goals as goal
 

@@ -1,7 +1,6 @@
 -- `columns::apart` meets its contract. Assumes nothing.
 use Rattle.faults.proofs.Joins.{either_of, both, same_of}
 use Rattle.columns.specs.Tables.{joined}
-use borrow.Author.Rules.{rules}
 use Rattle.columns.proofs.apart.Goals as goal
 
 pub returns : goal.returns

@@ -3,7 +3,6 @@ use mathlib.Core.Path.{refl}
 use Rattle.layout.specs.Page.{page}
 use Rattle.layout.specs.declared.Edition.TheVariants.{One, Three}
 use Rattle.columns.specs.Tables.{cells, cells_from, cell_of, bonds, bonds_from, inside, after}
-use borrow.Author.Rules.{rules}
 use Rattle.columns.proofs.early_flags.Goals as goal
 
 pub returns : goal.returns

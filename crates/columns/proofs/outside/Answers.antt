@@ -1,7 +1,6 @@
 -- `columns::outside` meets its contract. Assumes nothing.
 use Rattle.faults.proofs.Joins.{either_of}
 use Rattle.columns.specs.Tables.{allowed}
-use borrow.Author.Rules.{rules}
 use Rattle.columns.proofs.outside.Goals as goal
 
 pub returns : goal.returns

@@ -3,7 +3,6 @@ use mathlib.Core.Path.{ap, sym, subst, ◌∙◌}
 use Rattle.layout.specs.declared.Edition.{Edition}
 use Rattle.layout.specs.Editions.{length_of}
 use Rattle.columns.specs.Tables.{Own}
-use borrow.Author.Rules.{rules}
 use Rattle.columns.proofs.own.Goals as goal
 
 pub own-requires : goal.own-requires

@@ -1,11 +1,6 @@
-use lib.Bits.{bit_or}
 use Prim.Native.Nat.{ℕ, ◌-◌, ◌<◌, ◌≤◌}
 use mathlib.Core.Path.{◌≡◌}
-use native.Mathlib.Omega.{arith}
-use borrow.Author.Count.{below_more, below_none}
-use Rattle.faults.proofs.Joins.{two_of}
-use Rattle.columns.proofs.Ranges.{Judged, judge, range_of}
-use borrow.Author.Rules.{rules}
+use Rattle.columns.proofs.Ranges.{Judged}
 use Rattle.columns.proofs.part.Given as goal
 
 abbrev pub invariant-loop-k : goal.invariant-loop-k

@@ -2,7 +2,6 @@
 use native.Mathlib.Omega.{arith}
 use Rattle.faults.proofs.Joins.{two_of}
 use Rattle.columns.proofs.Ranges.{onward}
-use borrow.Author.Rules.{rules}
 use Rattle.columns.proofs.shared.Goals as goal
 
 pub returns : goal.returns

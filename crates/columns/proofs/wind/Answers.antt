@@ -4,7 +4,6 @@ use Rattle.layout.specs.Page.{page}
 use Rattle.layout.specs.declared.Edition.TheVariants.{One, Three, Four}
 use Rattle.columns.specs.Tables.{cells, cells_from, cell_of, bonds, bonds_from, inside, after}
 use Rattle.columns.proofs.Ranges.{each}
-use borrow.Author.Rules.{rules}
 use Rattle.columns.proofs.wind.Goals as goal
 
 pub returns : goal.returns

@@ -1,5 +1,5 @@
 -- `faults::strays` meets its contract. Assumes nothing.
-use Rattle.std.proofs.Common.{ap, ◌∙◌, arith, rules}
+use Rattle.std.proofs.Common.{ap, ◌∙◌, arith}
 use Rattle.faults.specs.Faults.{no}
 use Rattle.faults.proofs.Rounds.{around}
 use Rattle.faults.proofs.strays.Goals as goal

@@ -1,10 +1,9 @@
 -- `numerals::put` meets its contract: placing what is left to spell gives what placing the whole gave. Assumes nothing.
-use Prim.Native.Nat.{◌%◌, ◌<◌, ◌≤◌}
+use Prim.Native.Nat.{◌%◌, ◌<◌}
 use Rattle.numerals.proofs.Spellings.{put_end, put_turn}
-use Rattle.numerals.specs.Numerals.{placed, spelled}
 use borrow.Author.Rules.{rules}
-use lib.ListN.{length, length-set}
-use mathlib.Core.Path.{◌∙◌, ◌≡◌, refl}
+use lib.ListN.{length-set}
+use mathlib.Core.Path.{◌∙◌, refl}
 use native.Mathlib.Nat.{mod-lt}
 use native.Mathlib.Omega.{arith}
 use Rattle.numerals.proofs.put.Goals.{In-loop-k}

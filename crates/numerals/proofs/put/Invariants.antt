@@ -1,11 +1,7 @@
-use Prim.Native.Nat.{◌%◌, ◌<◌, ◌≤◌}
-use Rattle.numerals.proofs.Spellings.{put_end, put_turn}
+use Prim.Native.Nat.{◌≤◌}
 use Rattle.numerals.specs.Numerals.{placed, spelled}
-use borrow.Author.Rules.{rules}
-use lib.ListN.{length, length-set}
-use mathlib.Core.Path.{◌∙◌, ◌≡◌, refl}
-use native.Mathlib.Nat.{mod-lt}
-use native.Mathlib.Omega.{arith}
+use lib.ListN.{length}
+use mathlib.Core.Path.{◌≡◌}
 use Rattle.numerals.proofs.put.Given as goal
 
 abbrev pub invariant-loop-k : goal.invariant-loop-k

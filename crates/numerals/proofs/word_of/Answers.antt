@@ -1,11 +1,11 @@
 -- `numerals::word_of` meets its contract: the bytes that are left go on from the number so far, which is small enough for seven. Assumes nothing.
-use Prim.Native.Nat.{◌*◌, ◌+◌, ◌-◌, ◌<◌, ◌^◌, ◌≤◌, ℕ}
+use Prim.Native.Nat.{◌*◌, ◌+◌, ◌<◌, ℕ}
 use Rattle.numerals.proofs.Spellings.{byte_more, seven_bytes}
 use Rattle.text.proofs.Numbers.{more, no_more}
-use Rattle.text.specs.Bytes.{value_from, word}
+use Rattle.text.specs.Bytes.{value_from}
 use borrow.Author.Rules.{rules}
-use lib.ListN.{drop, length}
-use mathlib.Core.Path.{◌∙◌, ◌≡◌, ap, refl, sym}
+use lib.ListN.{drop}
+use mathlib.Core.Path.{◌∙◌, ap, refl, sym}
 use native.Mathlib.Nat.{sub-zero}
 use native.Mathlib.Omega.{arith}
 use Rattle.numerals.proofs.word_of.Goals.{In-loop-i}

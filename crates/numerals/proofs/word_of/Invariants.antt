@@ -1,12 +1,7 @@
-use Prim.Native.Nat.{◌*◌, ◌+◌, ◌-◌, ◌<◌, ◌^◌, ◌≤◌, ℕ}
-use Rattle.numerals.proofs.Spellings.{byte_more, seven_bytes}
-use Rattle.text.proofs.Numbers.{more, no_more}
+use Prim.Native.Nat.{◌-◌, ◌<◌, ◌^◌, ◌≤◌}
 use Rattle.text.specs.Bytes.{value_from, word}
-use borrow.Author.Rules.{rules}
 use lib.ListN.{drop, length}
-use mathlib.Core.Path.{◌∙◌, ◌≡◌, ap, refl, sym}
-use native.Mathlib.Nat.{sub-zero}
-use native.Mathlib.Omega.{arith}
+use mathlib.Core.Path.{◌≡◌}
 use Rattle.numerals.proofs.word_of.Given as goal
 
 abbrev pub invariant-loop-i : goal.invariant-loop-i

@@ -1,5 +1,5 @@
 use Rattle.octets.proofs.SearchLaws.{here, further, nowhere}
-use Rattle.std.proofs.Common.{arith, rules}
+use Rattle.std.proofs.Common.{arith}
 use Rattle.octets.proofs.find.Goals as goal
 
 pub returns-then-bytes-here-clause-first : goal.returns-then-bytes-here-clause-first

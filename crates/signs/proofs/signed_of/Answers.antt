@@ -1,6 +1,5 @@
 -- `signs::signed_of` meets its contract. Assumes nothing.
 use Rattle.signs.proofs.Signs.{minus_fits, minus_is, plus_is}
-use borrow.Author.Rules.{rules}
 use mir.Syntax.{w64}
 use native.Mathlib.Omega.{arith}
 use Rattle.signs.proofs.signed_of.Goals as goal

@@ -1,10 +1,7 @@
 -- `wording::places` meets its contract: those counted and those that are left are all. Assumes nothing.
-use Prim.Native.Nat.{◌+◌, ◌-◌, ◌<◌, ◌^◌}
 use Rattle.wording.proofs.WordingLaws.{count_end, count_starts, count_turn}
-use Rattle.wording.specs.Wording.{decimal, decimal_from}
 use borrow.Author.Rules.{rules}
-use lib.ListN.{length}
-use mathlib.Core.Path.{◌∙◌, ◌≡◌}
+use mathlib.Core.Path.{◌∙◌}
 use native.Mathlib.Omega.{arith}
 use Rattle.wording.proofs.places.Goals as goal
 

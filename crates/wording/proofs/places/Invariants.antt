@@ -1,10 +1,7 @@
 use Prim.Native.Nat.{◌+◌, ◌-◌, ◌<◌, ◌^◌}
-use Rattle.wording.proofs.WordingLaws.{count_end, count_starts, count_turn}
 use Rattle.wording.specs.Wording.{decimal, decimal_from}
-use borrow.Author.Rules.{rules}
 use lib.ListN.{length}
-use mathlib.Core.Path.{◌∙◌, ◌≡◌}
-use native.Mathlib.Omega.{arith}
+use mathlib.Core.Path.{◌≡◌}
 use Rattle.wording.proofs.places.Given as goal
 
 abbrev pub invariant-loop-left : goal.invariant-loop-left

@@ -1,6 +1,5 @@
 -- `wording::put_number` meets its contract: the last digits of a number, as many as it has, are its digits. Assumes nothing.
 use Rattle.wording.proofs.WordingLaws.{decimal_short, number_put, one_place, two_places}
-use borrow.Author.Rules.{rules}
 use native.Mathlib.Omega.{arith}
 use Rattle.wording.proofs.put_number.Goals as goal
 

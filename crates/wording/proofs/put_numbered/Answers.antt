@@ -1,7 +1,6 @@
 -- `wording::put_numbered` meets its contract. Assumes nothing.
 use Rattle.wording.proofs.PutLaws.{also}
 use native.Mathlib.Omega.{arith}
-use borrow.Author.Rules.{rules}
 use Rattle.wording.proofs.put_numbered.Goals as goal
 
 pub returns-clause-puts : goal.returns-clause-puts

@@ -7,7 +7,6 @@ use Rattle.signs.specs.Signed.{negative}
 use lib.IntN.{nat_abs}
 use mathlib.Core.Path.{◌∙◌, ap, sym}
 use native.Mathlib.Omega.{arith}
-use borrow.Author.Rules.{rules}
 use Rattle.wording.proofs.put_signed.Goals as goal
 
 pub returns-then-is_negative-clause-puts : goal.returns-then-is_negative-clause-puts

@@ -1,10 +1,8 @@
 -- `wording::put_text` meets its contract: placing what is left of the text gives what placing the whole gave. Assumes nothing.
-use Prim.Native.Nat.{◌+◌, ◌-◌, ◌≤◌}
-use Rattle.numerals.specs.Numerals.{placed}
 use Rattle.wording.proofs.WordingLaws.{text_end, text_starts, text_turn}
 use borrow.Author.Rules.{rules}
-use lib.ListN.{drop, length, length-set}
-use mathlib.Core.Path.{◌∙◌, ◌≡◌, refl}
+use lib.ListN.{length-set}
+use mathlib.Core.Path.{◌∙◌, refl}
 use native.Mathlib.Omega.{arith}
 use Rattle.wording.proofs.put_text.Goals as goal
 

@@ -1,10 +1,7 @@
 use Prim.Native.Nat.{◌+◌, ◌-◌, ◌≤◌}
 use Rattle.numerals.specs.Numerals.{placed}
-use Rattle.wording.proofs.WordingLaws.{text_end, text_starts, text_turn}
-use borrow.Author.Rules.{rules}
-use lib.ListN.{drop, length, length-set}
-use mathlib.Core.Path.{◌∙◌, ◌≡◌, refl}
-use native.Mathlib.Omega.{arith}
+use lib.ListN.{drop, length}
+use mathlib.Core.Path.{◌≡◌}
 use Rattle.wording.proofs.put_text.Given as goal
 
 abbrev pub invariant-loop-i : goal.invariant-loop-i

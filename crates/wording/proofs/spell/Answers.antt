@@ -1,10 +1,8 @@
 -- `wording::spell` meets its contract: placing what is left to spell gives what placing the whole gave. Assumes nothing.
-use Prim.Native.Nat.{◌≤◌}
 use Rattle.numerals.proofs.Spellings.{put_end, put_turn}
-use Rattle.numerals.specs.Numerals.{placed, spelled}
 use borrow.Author.Rules.{rules}
-use lib.ListN.{length, length-set}
-use mathlib.Core.Path.{◌∙◌, ◌≡◌, refl}
+use lib.ListN.{length-set}
+use mathlib.Core.Path.{◌∙◌, refl}
 use native.Mathlib.Omega.{arith}
 use Rattle.wording.proofs.spell.Goals as goal
 

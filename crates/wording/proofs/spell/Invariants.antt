@@ -1,10 +1,7 @@
 use Prim.Native.Nat.{◌≤◌}
-use Rattle.numerals.proofs.Spellings.{put_end, put_turn}
 use Rattle.numerals.specs.Numerals.{placed, spelled}
-use borrow.Author.Rules.{rules}
-use lib.ListN.{length, length-set}
-use mathlib.Core.Path.{◌∙◌, ◌≡◌, refl}
-use native.Mathlib.Omega.{arith}
+use lib.ListN.{length}
+use mathlib.Core.Path.{◌≡◌}
 use Rattle.wording.proofs.spell.Given as goal
 
 abbrev pub invariant-loop-k : goal.invariant-loop-k

@@ -5,7 +5,6 @@ use Rattle.layout.specs.Page.{page}
 use Rattle.layout.specs.declared.Edition.TheVariants.{Four}
 use Rattle.columns.specs.Tables.{cells, cells_from, cell_of, cell_at, bonds, bonds_from, bond_at, inside, after}
 use Rattle.columns.proofs.Ranges.{to_last}
-use borrow.Author.Rules.{rules}
 use Rattle.columns.proofs.four.last.Goals as goal
 
 pub returns : goal.returns

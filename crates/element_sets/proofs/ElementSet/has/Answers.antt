@@ -1,7 +1,6 @@
 -- `element_sets::ElementSet::has` meets its contract. Assumes nothing.
 use mathlib.Core.Path.{sym, ◌∙◌}
 use Prim.Native.Nat.{◌-◌}
-use borrow.Author.Rules.{rules}
 use Rattle.element_sets.proofs.Ways.{bit_tested, has_zero, has_low, has_high, has_past}
 use Rattle.element_sets.proofs.ElementSet.has.Goals as goal
 

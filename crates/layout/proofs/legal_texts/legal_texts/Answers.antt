@@ -1,6 +1,4 @@
 -- `layout::legal_texts::legal_texts` meets its contract: an arm an element, an arm a run of flags, and the last where there is no element. Assumes nothing.
-use Prim.Native.Nat.{◌≤◌}
-use borrow.Author.Rules.{rules}
 use Rattle.layout.specs.Page.{page, element}
 use Rattle.layout.proofs.LegalTexts.{in_all, flags, later_flags, before_first, past_last, NoneFrom, others, behind}
 use Rattle.layout.proofs.legal_texts.legal_texts.Goals as goal

@@ -1,7 +1,6 @@
 -- `layout::page::columns` meets its contract. Assumes nothing.
 use Prim.Native.Nat.{◌≤◌, ℕ}
 use Rattle.layout.proofs.Parts.{at_most, inside, past, to_the_end}
-use borrow.Author.Rules.{rules}
 use lib.ListN.{drop, length, take}
 use mathlib.Core.List.{List}
 use mathlib.Core.Path.{◌≡◌}

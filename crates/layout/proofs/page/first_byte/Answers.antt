@@ -1,6 +1,5 @@
 -- `layout::page::first_byte` meets its contract. Assumes nothing.
 use Prim.Native.Nat.{ℕ}
-use borrow.Author.Rules.{rules}
 use lib.ListN.{get_or}
 use mathlib.Core.Path.{ap}
 use Rattle.layout.proofs.page.first_byte.Goals as goal

@@ -5,7 +5,6 @@ use Rattle.layout.proofs.Parts.{own_width}
 use Rattle.text.proofs.First.{begin, end, off, on}
 use Rattle.text.specs.First.{first_from, first_of}
 use borrow.Author.Rules.{rules}
-use borrow.Author.Tests.{not-false, not-true}
 use lib.ListN.{length}
 use mathlib.Core.Path.{◌∙◌, ◌≡◌, ap, refl, sym}
 use native.Mathlib.Omega.{arith}

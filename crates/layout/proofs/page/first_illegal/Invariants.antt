@@ -1,15 +1,7 @@
-use Prim.Native.Nat.{ℕ, ◌+◌, ◌-◌, ◌<◌, ◌≤◌}
-use Rattle.layout.proofs.Elements.{last_below, legal_of, next, part, within}
-use Rattle.layout.proofs.Parts.{own_width}
-use Rattle.text.proofs.First.{begin, end, off, on}
+use Prim.Native.Nat.{◌+◌, ◌-◌, ◌≤◌}
 use Rattle.text.specs.First.{first_from, first_of}
-use borrow.Author.Rules.{rules}
-use borrow.Author.Tests.{not-false, not-true}
-use lib.ListN.{length}
-use mathlib.Core.Path.{◌∙◌, ◌≡◌, ap, refl, sym}
-use native.Mathlib.Omega.{arith}
-use Rattle.layout.specs.Page.{start_of, width_of, columns, legal}
-use Rattle.layout.specs.Editions.{last_of}
+use mathlib.Core.Path.{◌≡◌}
+use Rattle.layout.specs.Page.{start_of, legal}
 use Rattle.layout.proofs.page.first_illegal.Given as goal
 
 abbrev pub invariant-loop-e : goal.invariant-loop-e

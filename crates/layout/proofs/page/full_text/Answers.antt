@@ -1,7 +1,6 @@
 -- `layout::page::full_text` meets its contract. Assumes nothing.
 use Rattle.layout.proofs.Elements.{part}
 use Rattle.layout.proofs.Parts.{own_width}
-use borrow.Author.Rules.{rules}
 use Rattle.layout.proofs.page.full_text.Goals as goal
 
 pub returns-clause-result_value : goal.returns-clause-result_value

@@ -2,7 +2,6 @@
 use Rattle.text.proofs.Ways.{or_goes_on, or_holds}
 use Rattle.text.specs.LegalTexts.{allows}
 use Rattle.text.specs.declared.LegalTexts.{LegalTexts}
-use borrow.Author.Rules.{rules}
 use mathlib.Core.Path.{◌∙◌, ap}
 use Rattle.layout.proofs.page.is_legal.Goals as goal
 

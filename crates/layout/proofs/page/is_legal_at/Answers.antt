@@ -1,6 +1,5 @@
 -- `layout::page::is_legal_at` meets its contract. Assumes nothing.
 use Rattle.layout.proofs.Elements.{legal_of}
-use borrow.Author.Rules.{rules}
 use Rattle.layout.proofs.page.is_legal_at.Goals as goal
 
 pub returns : goal.returns

@@ -1,6 +1,5 @@
 -- `layout::page::is_missing` meets its contract. Assumes nothing.
 use Rattle.text.proofs.Ways.{and_goes_on, and_stops}
-use borrow.Author.Rules.{rules}
 use Rattle.layout.proofs.page.is_missing.Goals as goal
 
 pub returns-then-may_be_blank : goal.returns-then-may_be_blank

@@ -1,6 +1,5 @@
 -- `layout::page::text_of` meets its contract. Assumes nothing.
 use Rattle.layout.proofs.Parts.{own_columns, own_width}
-use borrow.Author.Rules.{rules}
 use mathlib.Core.Path.{◌≡◌}
 use Rattle.layout.specs.Page.{text_of}
 use Rattle.layout.proofs.page.text_of.Goals.{After-columns}

@@ -4,7 +4,6 @@ use Rattle.layout.proofs.Columns.{start_below}
 use Rattle.layout.proofs.Beyond.{start_past}
 use Rattle.layout.proofs.Rows.{row_start}
 use Rattle.layout.specs.Page.{start_of}
-use borrow.Author.Rules.{rules}
 use mathlib.Core.Path.{◌≡◌}
 use native.Mathlib.Omega.{arith}
 use Rattle.layout.proofs.widths.start_of.Goals.{After-up_to}

@@ -1,7 +1,6 @@
 -- `layout::widths::up_to` meets its contract. Assumes nothing.
 use Prim.Native.Nat.{ℕ, ◌*◌, ◌/◌, ◌-◌, ◌%◌, ◌^◌}
 use mathlib.Core.Path.{ap}
-use borrow.Author.Rules.{rules}
 use Rattle.layout.proofs.widths.up_to.Goals as goal
 
 pub returns : goal.returns

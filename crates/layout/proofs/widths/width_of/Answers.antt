@@ -2,7 +2,6 @@
 use Prim.Native.Nat.{ℕ, ◌%◌}
 use Rattle.layout.proofs.Beyond.{width_past}
 use Rattle.layout.proofs.Rows.{row_width}
-use borrow.Author.Rules.{rules}
 use mathlib.Core.Path.{◌∙◌, ap}
 use native.Mathlib.Omega.{arith}
 use Rattle.layout.proofs.widths.width_of.Goals as goal

@@ -1,6 +1,5 @@
 -- `places::east_of` meets its contract. Assumes nothing.
 use Rattle.places.proofs.PlaceLaws.{east_east, east_far, east_west}
-use borrow.Author.Rules.{rules}
 use mathlib.Core.Path.{refl}
 use Rattle.places.proofs.east_of.Goals as goal
 

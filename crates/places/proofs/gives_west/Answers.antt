@@ -1,6 +1,5 @@
 -- `places::gives_west` meets its contract. Assumes nothing.
 use Rattle.places.proofs.PlaceLaws.{west_far}
-use borrow.Author.Rules.{rules}
 use Rattle.places.proofs.gives_west.Goals as goal
 
 pub returns-then-digit-gt9 : goal.returns-then-digit-gt9

@@ -2,7 +2,6 @@
 use Prim.Native.Nat.{ℕ}
 use Rattle.layout.specs.declared.Edition.{Edition}
 use Rattle.places.specs.Places.{south}
-use borrow.Author.Rules.{rules}
 use mathlib.Core.Path.{◌∙◌, ◌≡◌, ap, sym}
 use Rattle.places.proofs.is_south.Goals as goal
 

@@ -1,7 +1,6 @@
 -- `places::latitude_figure` meets its contract. Assumes nothing.
 use Rattle.places.specs.Places.{tenths, latitude_figure}
 use Rattle.signs.proofs.Signs.{itself}
-use borrow.Author.Rules.{rules}
 use lib.IntN.{nat_abs}
 use mathlib.Core.Path.{◌∙◌, ap}
 use Rattle.places.proofs.latitude_figure.Goals as goal

@@ -1,6 +1,5 @@
 -- `places::longitude_figure` meets its contract. Assumes nothing.
 use Rattle.places.specs.Places.{tenths, east, longitude_figure}
-use borrow.Author.Rules.{rules}
 use mathlib.Core.Bool.{Bool}
 use mathlib.Core.Path.{◌∙◌, ap}
 use Rattle.places.proofs.longitude_figure.Goals as goal

@@ -1,6 +1,5 @@
 -- `places::octant_fits` meets its contract. Assumes nothing.
 use Rattle.places.specs.Places.{octant_fits}
-use borrow.Author.Rules.{rules}
 use mathlib.Core.Path.{◌∙◌, sym}
 use Rattle.places.proofs.octant_fits.Goals as goal
 

@@ -3,7 +3,6 @@ use Rattle.places.proofs.PlaceLaws.{place_is}
 use mathlib.Core.Path.{◌∙◌}
 use mir.Facts.{to_z-of_z}
 use mir.Syntax.{w64}
-use borrow.Author.Rules.{rules}
 use Rattle.places.proofs.place_at.Goals as goal
 
 pub returns : goal.returns

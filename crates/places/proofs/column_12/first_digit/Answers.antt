@@ -1,8 +1,6 @@
 -- `places::column_12::first_digit` meets its contract: what is left to look at says the same as the whole. Assumes nothing.
-use Prim.Native.Nat.{◌-◌, ◌≤◌}
-use Rattle.places.proofs.DigitLaws.{begins, ended, leaves, passed, taken}
+use Rattle.places.proofs.DigitLaws.{begins, ended, passed, taken}
 use Rattle.places.proofs.Demand3Digits.{digit_found}
-use borrow.Author.Rules.{rules}
 use lib.Dec.{lit≤}
 use native.Mathlib.Omega.{arith}
 use Rattle.places.proofs.column_12.first_digit.Goals as goal

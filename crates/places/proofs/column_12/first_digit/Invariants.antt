@@ -1,9 +1,5 @@
 use Prim.Native.Nat.{◌-◌, ◌≤◌}
-use Rattle.places.proofs.DigitLaws.{begins, ended, leaves, passed, taken}
-use Rattle.places.proofs.Demand3Digits.{digit_found}
-use borrow.Author.Rules.{rules}
-use lib.Dec.{lit≤}
-use native.Mathlib.Omega.{arith}
+use Rattle.places.proofs.DigitLaws.{leaves}
 use Rattle.places.proofs.column_12.first_digit.Given as goal
 
 abbrev pub invariant-loop-b : goal.invariant-loop-b

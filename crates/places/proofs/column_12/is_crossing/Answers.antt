@@ -1,5 +1,4 @@
 -- `places::column_12::is_crossing` meets its contract. Assumes nothing.
-use borrow.Author.Rules.{rules}
 use Rattle.places.proofs.DigitLaws.{crossing}
 use Rattle.places.proofs.column_12.is_crossing.Goals as goal
 

@@ -2,7 +2,6 @@
 use Rattle.text.proofs.Ways.{and_stops, and_goes_on}
 use Rattle.signs.specs.Signed.{same_signed}
 use Rattle.signs.proofs.Signs.{same_back}
-use borrow.Author.Rules.{rules}
 use mathlib.Core.Path.{◌≡◌, ◌∙◌, refl}
 use Rattle.places.proofs.column_12.is_one_place.Goals.{After-is_same}
 use Rattle.places.proofs.column_12.is_one_place.Goals as goal

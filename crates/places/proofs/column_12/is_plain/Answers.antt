@@ -1,5 +1,4 @@
 -- `places::column_12::is_plain` meets its contract. Assumes nothing.
-use borrow.Author.Rules.{rules}
 use mathlib.Core.Bool.{false≢true}
 use Rattle.places.proofs.column_12.is_plain.Goals as goal
 

@@ -1,6 +1,5 @@
 -- `places::column_12::is_same_place` meets its contract. Assumes nothing.
 use Rattle.places.proofs.DigitLaws.{of_digits}
-use borrow.Author.Rules.{rules}
 use mathlib.Core.Path.{◌∙◌}
 use Rattle.places.proofs.column_12.is_same_place.Goals as goal
 

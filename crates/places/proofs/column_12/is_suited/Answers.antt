@@ -1,7 +1,5 @@
 -- `places::column_12::is_suited` meets its contract. Assumes nothing.
-use borrow.Author.Rules.{rules}
 use Rattle.places.proofs.DigitLaws.{not_standing, not_same, same_and}
-use borrow.Author.Tests.{not-true, not-false}
 use Rattle.places.proofs.column_12.is_suited.Goals as goal
 
 pub returns-then-not-may_stand : goal.returns-then-not-may_stand

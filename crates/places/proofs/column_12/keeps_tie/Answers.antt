@@ -1,5 +1,4 @@
 -- `places::column_12::keeps_tie` meets its contract. Assumes nothing.
-use borrow.Author.Rules.{rules}
 use Rattle.places.proofs.DigitLaws.{tie_at}
 use mathlib.Core.Path.{◌∙◌}
 use Rattle.places.proofs.column_12.keeps_tie.Goals as goal

@@ -1,7 +1,5 @@
 -- `places::column_12::lowest_digit` meets its contract. Assumes nothing.
-use borrow.Author.Rules.{rules}
 use mathlib.Core.Path.{refl}
-use borrow.Author.Tests.{not-false}
 use Rattle.places.proofs.PlainLaws.{by_place}
 use Rattle.places.proofs.column_12.lowest_digit.Goals as goal
 

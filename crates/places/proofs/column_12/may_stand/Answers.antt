@@ -1,5 +1,4 @@
 -- `places::column_12::may_stand` meets its contract. Assumes nothing.
-use borrow.Author.Rules.{rules}
 use mathlib.Core.Path.{◌∙◌, sym}
 use Rattle.layout.specs.declared.Edition.TheVariants.{One, Three, Four}
 use Rattle.places.proofs.DigitLaws.{digit_stands, stands_at}

@@ -1,5 +1,4 @@
 -- `places::column_12::octant_of` meets its contract. Assumes nothing.
-use borrow.Author.Rules.{rules}
 use Rattle.places.proofs.column_12.octant_of.Goals as goal
 
 pub returns-then-far : goal.returns-then-far

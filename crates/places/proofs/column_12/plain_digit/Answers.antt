@@ -1,5 +1,4 @@
 -- `places::column_12::plain_digit` meets its contract. Assumes nothing.
-use borrow.Author.Rules.{rules}
 use mathlib.Core.Path.{◌∙◌}
 use Rattle.places.proofs.PlainLaws.{table_at}
 use Rattle.places.proofs.column_12.plain_digit.Goals as goal

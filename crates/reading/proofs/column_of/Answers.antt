@@ -1,0 +1,15 @@
+-- `reading::column_of` meets its contract. Assumes nothing.
+use Rattle.reading.proofs.ColumnLaws.{column_code, column_missing, column_text}
+use borrow.Author.Rules.{rules}
+use lib.Dec.{lit≤}
+use Rattle.reading.proofs.column_of.Goals as goal
+
+pub returns-then-b-eq32 : goal.returns-then-b-eq32
+returns-then-b-eq32 c = column_missing _ c.if-b-eq32.true
+
+pub returns-then-other-ne0 : goal.returns-then-other-ne0
+returns-then-other-ne0 c = column_text _ c.if-b-eq32.false _ (c.strays-other.ensures (lit≤ tt)) c.if-other-ne0.true
+
+pub returns : goal.returns
+returns c =
+    column_code _ c.if-b-eq32.false _ (c.strays-other.ensures (lit≤ tt)) c.if-other-ne0.false _ _ c.digit_of.ensures c.wide-code.ensures

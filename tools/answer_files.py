@@ -28,6 +28,7 @@ class Function:
         self.index = {norm(p[0]): i for i, p in enumerate(self.places)}
         self.arms = entry["arms"]
         self.clauses = entry["clauses"]
+        self.params = entry["params"]
         self.needs = {norm(o): n for o, n in entry["needs"]}
         self.need_place = {norm(o): norm(a[0]) for (o, _), a in zip(entry["needs"], entry["asked_at"])}
         self.asked = {norm(o): c for o, c in entry["asked"].items()}
@@ -114,6 +115,13 @@ class Function:
         if norm(step) in self.loops:
             rest = ["invariant" if r == "inv" else r for r in rest[:1]] + rest[1:]
         clauses = self.clauses[j]
+        if rest[:1] == ["auto"] and rest[1:2] in (["0"], ["1"]):
+            k, at = 0, 1
+            while at < len(rest) and rest[at] == "1":
+                k, at = k + 1, at + 1
+            given = self.params.get(self.places[j][3], [])
+            if at < len(rest) and rest[at] == "0" and k < len(given):
+                rest = ["auto", given[k]] + rest[at + 1 :]
         fields = clauses["fields"] if clauses else []
         if fields and rest[:1] == ["ensures"]:
             if len(fields) == 1:

@@ -1,0 +1,34 @@
+-- `blanking::names::name_eight` meets its contract. Assumes nothing.
+use mathlib.Core.Path.{◌≡◌, refl, ap, ◌∙◌}
+use Prim.Native.Nat.{◌+◌, ◌-◌, ◌≤◌}
+use native.Mathlib.Omega.{arith}
+use borrow.Author.Rules.{rules}
+use Rattle.text.specs.Bytes.{between}
+use Rattle.element_sets.specs.ElementSets.{bits}
+use Rattle.layout.specs.Page.{first_byte}
+use Rattle.layout.proofs.Columns.{start_next, start_rises, some_column}
+use Rattle.blanking.proofs.NameLaws.{word_on, mask}
+use Rattle.blanking.proofs.names.name_eight.Goals as goal
+
+pub loop-k-init : goal.loop-k-init
+unfolding bits
+loop-k-init c = (omega arith, refl)
+
+pub first_byte-requires : goal.first_byte-requires
+first_byte-requires c =
+    let e = c.args.e + c.loop-k.k in
+    omega (arith, start_next e, start_rises (e + 1) (c.args.e + 8) (omega arith), some_column e (omega arith) (omega arith))
+
+pub loop-k-preserved : goal.loop-k-preserved
+loop-k-preserved c =
+    let args = c.args in (
+      omega arith,
+      word_on (λ j. between args.low args.high (first_byte j args.line.now)) args.e _ _ c.loop-k.invariant.1 _
+          (c.is_in.ensures ∙ ap (between args.low args.high) c.first_byte.ensures) _ (mask _ c.loop-k-test.true) _ c.bit-w.ensures,
+    )
+
+pub returns : goal.returns
+returns c =
+    let args = c.args in
+    let all : c.loop-k.k ≡ 8 = omega arith in
+    c.loop-k.invariant.1 ∙ ap (bits (λ j. between args.low args.high (first_byte j args.line.now)) args.e) all

@@ -1,0 +1,16 @@
+use mathlib.Core.Path.{◌≡◌, refl, ap, ◌∙◌}
+use Prim.Native.Nat.{◌+◌, ◌-◌, ◌≤◌}
+use native.Mathlib.Omega.{arith}
+use borrow.Author.Rules.{rules}
+use Rattle.text.specs.Bytes.{between}
+use Rattle.element_sets.specs.ElementSets.{bits}
+use Rattle.layout.specs.Page.{first_byte}
+use Rattle.layout.proofs.Columns.{start_next, start_rises, some_column}
+use Rattle.blanking.proofs.NameLaws.{word_on, mask}
+use Rattle.blanking.proofs.names.name_eight.Given as goal
+
+abbrev pub invariant-loop-k : goal.invariant-loop-k
+invariant-loop-k l = (l.k ≤ 8) × (l.w ≡ bits (λ j. between l.low l.high (first_byte j l.line)) l.e l.k)
+
+abbrev pub decreases-loop-k : goal.decreases-loop-k
+decreases-loop-k l = 8 - l.k

@@ -90,6 +90,8 @@ class Function:
         base = re.sub(r"^\(goal\.at\.\S+ c\)\.\S+$", "c", base)
         n = 0
         rest = [x.replace("-", "_") for x in rest]
+        if step == "pre":
+            step = "requires"
         if norm(step) in START:
             step = norm(step)
             return ".".join([base, step] + rest), None
@@ -115,13 +117,13 @@ class Function:
         if norm(step) in self.loops:
             rest = ["invariant" if r == "inv" else r for r in rest[:1]] + rest[1:]
         clauses = self.clauses[j]
-        if rest[:1] == ["auto"] and rest[1:2] in (["0"], ["1"]):
+        if rest[:1] in (["auto"], ["new"]) and rest[1:2] in (["0"], ["1"]):
             k, at = 0, 1
             while at < len(rest) and rest[at] == "1":
                 k, at = k + 1, at + 1
             given = self.params.get(self.places[j][3], [])
             if at < len(rest) and rest[at] == "0" and k < len(given):
-                rest = ["auto", given[k]] + rest[at + 1 :]
+                rest = [rest[0], given[k]] + rest[at + 1 :]
         fields = clauses["fields"] if clauses else []
         if fields and rest[:1] == ["ensures"]:
             if len(fields) == 1:
@@ -354,6 +356,7 @@ def convert(path, f, crate, fun):
                 answers.append("\n".join("-- LEFT " + l for l in lines))
                 continue
             new = f.needs[old]
+            renamed[name] = new
             place = f.index[f.need_place[old]]
             left, right = body.split("=", 1)
             args = left.split()[1:]

@@ -51,8 +51,8 @@ module _ {ed : Edition} {rs : List Reading} {row : List ℕ} {n : ℕ} (s : Spel
   not_fitting h = omega (arith, s.cut, record_long ed rs)
 
   -- what a copy of it leaves in a buffer
-  pub filled_up : (before after : List ℕ) → after ≡ take (length (take n row)) (take n row) ++ drop (length (take n row)) before → after ≡ overwritten (record_of ed rs) before
-  filled_up before after h = h ∙ ap (λ (t : List ℕ). t ++ drop (length (take n row)) before) (take-length (take n row)) ∙ ap (λ (t : List ℕ). overwritten t before) is_record
+  pub filled_up : (before after : List ℕ) → after ≡ take n row ++ drop (length (take n row)) before → after ≡ overwritten (record_of ed rs) before
+  filled_up before after h = h ∙ ap (λ (t : List ℕ). overwritten t before) is_record
 
 -- what writing comes to, by the first test that fails
 module _ (ed : Edition) (rs : List Reading) (xs : List ℕ) (x : xs ≡ record_of ed rs) (e : ℕ) (p : e ≡ first_of 101 (writes ed rs xs)) where

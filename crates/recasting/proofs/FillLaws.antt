@@ -17,8 +17,8 @@ use Rattle.recasting.specs.Recast.{blanks, widened}
 use Rattle.recasting.proofs.WidenLaws.{widened_long}
 
 -- a copy as long as what it is copied into
-pub whole_copy : (s d after : List ℕ) → length s ≡ length d → after ≡ take (length s) s ++ drop (length s) d → after ≡ s
-whole_copy s d after h f = f ∙ ap (λ (t : List ℕ). t ++ drop (length s) d) (take-length s) ∙ ap (λ (t : List ℕ). s ++ t) (drop_of_length-le d {i = length s} (omega arith)) ∙ append-nil s
+pub whole_copy : (s d after : List ℕ) → length s ≡ length d → after ≡ s ++ drop (length s) d → after ≡ s
+whole_copy s d after h f = f ∙ ap (λ (t : List ℕ). s ++ t) (drop_of_length-le d {i = length s} (omega arith)) ∙ append-nil s
 
 module _ (from : Edition) (xs : List ℕ) (full : length xs ≡ length_of from) where
   -- what stands behind the front
@@ -47,9 +47,9 @@ module _ (from : Edition) (xs : List ℕ) (full : length xs ≡ length_of from) 
   pub front_long : length (take 131 xs) ≡ 131
   front_long = length-take-le 131 xs (omega (arith, shortest from))
 
-  module _ (to : Edition) (row mid : List ℕ) (room : length row ≡ length_of to) (copy : mid ≡ take (length (take 131 xs)) (take 131 xs) ++ drop (length (take 131 xs)) row) where
+  module _ (to : Edition) (row mid : List ℕ) (room : length row ≡ length_of to) (copy : mid ≡ take 131 xs ++ drop (length (take 131 xs)) row) where
     copied : mid ≡ take 131 xs ++ drop 131 row
-    copied = copy ∙ ap (λ (t : List ℕ). t ++ drop (length (take 131 xs)) row) (take-length (take 131 xs)) ∙ ap (λ (n : ℕ). take 131 xs ++ drop n row) front_long
+    copied = copy ∙ ap (λ (n : ℕ). take 131 xs ++ drop n row) front_long
 
     pub mid_long : length mid ≡ length_of to
     mid_long = ap length copied ∙ length-append (take 131 xs) (drop 131 row) ∙ rw length-drop (omega (arith, front_long, shortest to))

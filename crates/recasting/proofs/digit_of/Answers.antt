@@ -6,8 +6,7 @@ use lib.Dec.{lit≤}
 use Rattle.layout.specs.declared.Edition.{Edition}
 use Rattle.layout.specs.declared.Edition.TheVariants.{One, Three, Four}
 use Rattle.layout.specs.Editions.{edition_number}
-use Rattle.recasting.proofs.digit_of.Statement.{statement}
-use Rattle.recasting.proofs.digit_of.Tie as tie
+use Rattle.recasting.proofs.digit_of.Goals as goal
 
 -- a number of one digit
 one_digit : (ed : Edition) → edition_number ed ≤ 9
@@ -15,11 +14,8 @@ one_digit One = lit≤ tt
 one_digit Three = lit≤ tt
 one_digit Four = lit≤ tt
 
-add-result : tie.Need-overflow-add-result
-add-result c = omega (arith, c.number.ensures, one_digit c.before.args.edition)
+pub overflow_add-result : goal.overflow_add-result
+overflow_add-result c = omega (arith, c.number.ensures, one_digit c.args.edition)
 
-cast-result : tie.Need-overflow-cast-result
-cast-result c = omega (arith, c.number.ensures, one_digit c.before.args.edition)
-
-pub digit-of-spec : {M : Type 1} → statement M
-digit-of-spec = tie.close (tie.spec (λ c κs. search rules) add-result cast-result (λ c. search rules))
+pub overflow_cast-result : goal.overflow_cast-result
+overflow_cast-result c = omega (arith, c.number.ensures, one_digit c.args.edition)

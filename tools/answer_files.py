@@ -34,6 +34,7 @@ class Function:
         self.asked = {norm(o): c for o, c in entry["asked"].items()}
         self.loops = {norm(l[0][0]): (l[0][1], l[1], ch) for l, ch in zip(entry["loops"], entry["changed"])}
         self.said = []
+        self.last_fields = None
         # the goal that is being answered
         self.goal = None
 
@@ -125,6 +126,7 @@ class Function:
             if at < len(rest) and rest[at] == "0" and k < len(given):
                 rest = [rest[0], given[k]] + rest[at + 1 :]
         fields = clauses["fields"] if clauses else []
+        self.last_fields = fields if rest == ["ensures"] and len(fields) > 1 else None
         if fields and rest[:1] == ["ensures"]:
             if len(fields) == 1:
                 rest = ["ensures", fields[0]] + rest[1:]
@@ -140,6 +142,8 @@ class Function:
 class Turner:
     def __init__(self, f, env, funs, renamed):
         self.f, self.env, self.funs, self.renamed = f, dict(env), funs, renamed
+        # local names of what a call ensures
+        self.local = {}
 
     def turn(self, text):
         """The new text, and the place if the whole of it is one."""
@@ -154,6 +158,8 @@ class Turner:
             m = re.compile(r"let (" + NAME + r") = ([^\n=]*?) in\b").match(text, i)
             if m:
                 inner, place = self.turn(m.group(2))
+                if place is None and re.fullmatch(r"c[\w.'₀-₉-]*\.ensures", inner) and self.f.last_fields:
+                    self.local[m.group(1)] = self.f.last_fields
                 if place is not None:
                     self.env[m.group(1)] = (place, inner)
                     i = m.end()
@@ -198,6 +204,8 @@ class Turner:
                         out.append(root)
                         whole, parts, i = self.funs[name], parts + 1, arg_end
                         continue
+                if name in self.local and fields[:1] in (["0"], ["1"]):
+                    fields = [self.local[name][int(fields[0])]] + fields[1:]
                 out.append(self.renamed.get(name, name) + "".join("." + x for x in fields))
                 whole, parts, i = None, parts + 1, j
                 continue
@@ -267,8 +275,25 @@ def parts_of(text, n):
 
 def lets_and_body(text):
     """`let .. in` at the front, and what stands behind."""
-    m = re.match(r"\s*((?:let (?:[^()]|\([^()]*\)|\((?:[^()]|\([^()]*\))*\))*?\bin\s+)*)", text)
-    return m.group(1), text[m.end(1) :].strip() if m.group(1) else text.strip()
+    i = 0
+    while True:
+        k = i + len(text[i:]) - len(text[i:].lstrip())
+        if not text.startswith("let ", k):
+            return text[:k], text[k:].strip()
+        depth, lets, j = 0, 0, k
+        while j < len(text):
+            ch = text[j]
+            depth += {"(": 1, ")": -1, "{": 1, "}": -1, "[": 1, "]": -1}.get(ch, 0)
+            if depth == 0 and re.match(r"let\b", text[j:]) and (j == 0 or text[j - 1] in " \n("):
+                lets += 1
+            if depth == 0 and re.match(r"in\b", text[j:]) and text[j - 1] in " \n)":
+                lets -= 1
+                if lets == 0:
+                    break
+            j += 1
+        else:
+            return text[:k], text[k:].strip()
+        i = j + 2
 
 
 def convert(path, f, crate, fun):
@@ -342,7 +367,12 @@ def convert(path, f, crate, fun):
                         names[args[at]] = "l." + p
                     at += 1
             if at != len(args):
-                f.said.append(f"{name} takes {len(args)} arguments, and {at} are known")
+                # a temporary value of the code stands among them: each goes by its own name
+                names = dict()
+                for a in args:
+                    p = a.rstrip("₀")
+                    if p in params:
+                        names[a] = ("l.initial." if a != p else "l.") + p
             right = re.sub(r"(?<![\w.'₀-₉-])(" + NAME + r")(?![\w'₀-₉]|-\w)", lambda t: names.get(t.group(1), t.group(1)), right)
             invariants.append("\n".join(says + ["abbrev pub %s%s : goal.%s%s" % (m.group(1), new, m.group(1), new)] + unfolding + ["%s%s l =%s" % (m.group(1), new, right)]))
             continue
@@ -371,6 +401,9 @@ def convert(path, f, crate, fun):
             if labels and len(labels) > 1:
                 lets, rest = lets_and_body(right)
                 parts = parts_of(rest, len(labels))
+                rewritten = re.fullmatch(r"(rw (?:\([^()]*(?:\([^()]*\)[^()]*)*\)|\S+)) (c\S*\.ensures)", rest)
+                if parts is None and rewritten:
+                    parts = [f"{rewritten.group(1)} {rewritten.group(2)}.{label}" for label in labels]
                 if parts is None:
                     f.said.append(f"{new}: not a pair of {len(labels)}")
                     fields = []

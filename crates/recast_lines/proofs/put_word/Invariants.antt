@@ -1,0 +1,15 @@
+use Prim.Native.Nat.{◌-◌, ◌≤◌}
+use Rattle.recast_lines.proofs.LostLaws.{told, told_next, told_none, told_some}
+use Rattle.wording.proofs.PutLaws.{Left, left_all, left_end, left_put}
+use Rattle.text.specs.Bytes.{bytes_of}
+use borrow.Author.Rules.{rules}
+use lib.Bits.{and_le_r}
+use lib.Count.{trailing_le}
+use native.Mathlib.Omega.{arith}
+use Rattle.recast_lines.proofs.put_word.Given as goal
+
+abbrev pub invariant-loop-left : goal.invariant-loop-left
+invariant-loop-left l = (l.left ≤ l.word) × Left (told l.first l.word) l.at l.initial.out (told l.first l.left) l.end l.out
+
+abbrev pub decreases-loop-left : goal.decreases-loop-left
+decreases-loop-left l = l.left

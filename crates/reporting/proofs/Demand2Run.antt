@@ -29,8 +29,8 @@ use Rattle.reporting.specs.declared.Finished.{Finished}
 use Rattle.reporting.specs.Lines.{lines_from, lines_of, last_line}
 use Rattle.reporting.specs.Report.{said_for, refused_for, records_from, any_refused, asked_by, recast_in, refused_in, report_on, refused_on, report_of}
 use Rattle.reporting.specs.Run.{State, state, ledger, start, one_more, opened, opening, refused_after, ledger_after, said_of, state_after, said_by, last_words, has_refused, end_of, closing, said_in_pieces}
-use Rattle.reporting.specs.Contracts.{view}
-use Rattle.reporting.specs.Contracts.{Feeds, Finishes, closing_most}
+use Rattle.reporting.specs.FeedClauses.{view}
+use Rattle.reporting.specs.FeedClauses.{Feeds, Finishes, closing_most}
 use Rattle.reporting.proofs.CutLaws.{said_cut, ledger_cut, kept_cut}
 use Rattle.reporting.proofs.RunLaws.{state_append, said_append}
 

@@ -17,7 +17,7 @@ use Rattle.reporting.specs.declared.Run.{Run}
 use Rattle.reporting.specs.declared.Told.{Told}
 use Rattle.reporting.specs.Lines.{next_end}
 use Rattle.reporting.specs.Run.{State, state, ledger_after, said_of, kept, step, state_after, said_by}
-use Rattle.reporting.specs.Contracts.{Tells, Feeds}
+use Rattle.reporting.specs.FeedClauses.{Tells, Feeds}
 use Rattle.wording.proofs.PutLaws.{nothing, also}
 use Rattle.reporting.proofs.CutLaws.{kept_cut}
 use Rattle.reporting.proofs.RunLaws.{state_append, said_append}

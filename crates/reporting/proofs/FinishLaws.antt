@@ -12,8 +12,8 @@ use Rattle.reporting.specs.declared.Ledger.{Ledger}
 use Rattle.reporting.specs.declared.Run.{Run}
 use Rattle.reporting.specs.declared.Told.{Told}
 use Rattle.reporting.specs.Run.{state, ledger_after, said_of, last_words, has_refused, end_of, closing}
-use Rattle.reporting.specs.Contracts.{view}
-use Rattle.reporting.specs.Contracts.{Tells, Finishes, closing_most}
+use Rattle.reporting.specs.FeedClauses.{view}
+use Rattle.reporting.specs.FeedClauses.{Tells, Finishes, closing_most}
 use Rattle.reporting.proofs.KeepLaws.{take_min}
 
 -- a buffer without room for the end is left as it is

@@ -19,7 +19,7 @@ use Rattle.reporting.specs.declared.Ledger.{Ledger}
 use Rattle.reporting.specs.declared.Told.{Told}
 use Rattle.reporting.specs.Report.{said_for, refused_for, asked_by}
 use Rattle.reporting.specs.Run.{ledger, one_more, opened, opening, refused_after, ledger_after, said_of, last_in, last_words, has_refused_in, has_refused}
-use Rattle.reporting.specs.Contracts.{Tells}
+use Rattle.reporting.specs.FeedClauses.{Tells}
 use Rattle.wording.proofs.PutLaws.{nothing}
 use Rattle.reporting.proofs.CutLaws.{said_cut, ledger_cut}
 

@@ -1,4 +1,4 @@
 pub mod Lines
 pub mod Report
 pub mod Run
-pub mod Contracts
+pub mod FeedClauses

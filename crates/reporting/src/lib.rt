@@ -12,7 +12,7 @@ ghost use Rattle.wording.specs.Puts.{Puts};
 ghost use Rattle.report_lines.specs.Says.{line_most, record_most, Says};
 ghost use Rattle.reporting.specs.Report.{said_for, refused_for, asked_by};
 ghost use Rattle.reporting.specs.Run.{start, ledger, one_more, refused_after, last_words, has_refused, held_most};
-ghost use Rattle.reporting.specs.Contracts.{view, Tells, Feeds, Finishes};
+ghost use Rattle.reporting.specs.FeedClauses.{view, Tells, Feeds, Finishes};
 
 use ends::line_end;
 use layout::{Edition, LONGEST, Named};

@@ -8,7 +8,7 @@ use borrow.Author.Tests.{ne_eqb}
 use lib.Bits.{bit_or, or_add_and, and_le_l, and_le_r}
 use lib.ListN.{length, get_or, drop}
 use lib.Seq.{drop-cons, take-length}
-use Rattle.bytes.specs.Bytes.{index_of, index_after, slice}
+use Rattle.octets.specs.Octets.{index_of, index_after}
 use Rattle.reporting.specs.Lines.{next_end}
 
 -- two numbers joined are 0 where both are
@@ -40,6 +40,5 @@ module _ (piece : List ℕ) (at : ℕ) where
     end_block h l none = before none ∙ ap (λ (n : ℕ). next_end piece (at + n)) (omega arith)
 
   -- what is left of the piece
-  pub end_found : {r : ℕ} → r ≡ at + index_of 10 (slice at (length piece) piece) → r ≡ next_end piece at
-  unfolding slice
-  end_found e = e ∙ ap (λ (xs : List ℕ). at + index_of 10 (drop at xs)) (take-length piece)
+  pub end_found : {r : ℕ} → r ≡ at + index_of 10 (drop at piece) → r ≡ next_end piece at
+  end_found e = e

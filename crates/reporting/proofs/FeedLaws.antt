@@ -9,7 +9,7 @@ use borrow.Author.Tests.{eqb-true}
 use lib.Dec.{eqb}
 use lib.ListN.{length, get_or, take, drop, length-drop}
 use lib.Seq.{get_or-drop, take_all, take-add, take-suc, length-take-le}
-use Rattle.bytes.specs.Bytes.{index_of, index_after}
+use Rattle.octets.specs.Octets.{index_of, index_after}
 use Rattle.wording.specs.Puts.{Puts}
 use Rattle.report_lines.specs.Says.{record_most}
 use Rattle.reporting.specs.declared.Ledger.{Ledger}

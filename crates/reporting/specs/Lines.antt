@@ -1,6 +1,6 @@
 -- The lines of an input: a line ends at byte 10 alone, and what stands after the last one is a line where it is not empty. Assumes nothing.
 use Rattle.std.specs.Prelude.{ℕ, ◌+◌, cond, List, [], ◌∷◌, ◌++◌, eqb, drop}
-use Rattle.bytes.specs.Bytes.{index_of}
+use Rattle.octets.specs.Octets.{index_of}
 
 -- the last line of an input that ends without byte 10
 abbrev pub last_line : List ℕ → List (List ℕ)

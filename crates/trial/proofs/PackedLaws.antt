@@ -141,10 +141,10 @@ packed_back (Amount a IcedComputed) = refl
 packed_back (At p) = refl
 
 -- a text that is as long as the room or shorter, and one that is longer
-pub shown : (sign text before after : List ℕ) → text ≡ sign → length text ≤ length before → after ≡ take (length text) text ++ drop (length text) before →
+pub shown : (sign text before after : List ℕ) → text ≡ sign → length text ≤ length before → after ≡ text ++ drop (length text) before →
     after ≡ shown_in sign before
 shown sign text before after e h f =
-    f ∙ ap (λ (t : List ℕ). t ++ drop (length text) before) (take-length text) ∙
+    f ∙
     rw (← e, le-leb (length text) (length before) h)
 
 pub not_shown : (sign text before : List ℕ) → text ≡ sign → length before < length text → before ≡ shown_in sign before

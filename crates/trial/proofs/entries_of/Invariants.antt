@@ -1,0 +1,14 @@
+use Prim.Native.Nat.{◌+◌, ◌-◌, ◌≤◌}
+use Rattle.reading.proofs.EntryLaws.{below, fill_end, fill_turn, entry}
+use Rattle.reading.specs.Answers.{entries_from, entries_of}
+use Rattle.trial.specs.Packed.{reading_at}
+use borrow.Author.Rules.{rules}
+use mathlib.Core.Path.{◌∙◌, ◌≡◌, ap, refl, sym}
+use native.Mathlib.Omega.{arith}
+use Rattle.trial.proofs.entries_of.Given as goal
+
+abbrev pub invariant-loop-k : goal.invariant-loop-k
+invariant-loop-k l = (l.k ≤ 101) × (l.entries ≡ entries_of (below (l.k + 1) (λ e. reading_at l.numbers l.amounts (e - 1))))
+
+abbrev pub decreases-loop-k : goal.decreases-loop-k
+decreases-loop-k l = 101 - l.k

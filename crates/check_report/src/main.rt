@@ -11,6 +11,6 @@
 
 use reporting::{Job, Stage};
 
-fn main() {
-    program::run(Stage::Telling(Job::Check), b"check_report");
+fn main(rt: HostRuntime) {
+    program::run(&rt, Stage::Telling(Job::Check), b"check_report");
 }

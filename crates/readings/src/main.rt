@@ -19,6 +19,6 @@
 
 use reporting::{Job, Stage};
 
-fn main() {
-    program::run(Stage::Telling(Job::Readings), b"readings");
+fn main(rt: HostRuntime) {
+    program::run(&rt, Stage::Telling(Job::Readings), b"readings");
 }

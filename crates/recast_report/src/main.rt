@@ -14,6 +14,6 @@
 
 use reporting::Stage;
 
-fn main() {
-    program::run(Stage::Asking, b"recast_report");
+fn main(rt: HostRuntime) {
+    program::run(&rt, Stage::Asking, b"recast_report");
 }

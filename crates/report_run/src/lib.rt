@@ -1,4 +1,4 @@
-// A report over standard input and standard output.
+// A report over an input and an output, as a program has them.
 //
 // All that is told is told by the crate `reporting`, whose run is proved to say the report of the whole
 // input in whatever pieces it is fed; what stands here only moves bytes, and stops where they do not move.
@@ -7,8 +7,9 @@
 ghost use Rattle.std.specs.Prelude.{◌≤◌, length};
 ghost use Rattle.report_lines.specs.Says.{record_most};
 
-use libc::{STDIN_FILENO, STDOUT_FILENO};
 use reporting::{Run, Stage};
+use std::io::{Read, Write};
+use std::rt::{Stdin, Stdout};
 
 // How many bytes are read at a time, and written at most. A record is told in less than a tenth of a
 // microsecond, so that with a quarter of this the calls of the system make a run a tenth longer.
@@ -54,8 +55,26 @@ struct Written {
     failed: bool,
 }
 
+// Writes all of the bytes and answers true, or stops at the first write that takes nothing or fails and
+// answers false, when some of them may have been written.
+pub fn write_all<W: Write>(to: &mut W, bytes: &[u8]) -> bool {
+    let mut done = 0;
+    while done < bytes.len() {
+        match to.write(&bytes[done..]) {
+            Ok(count) => {
+                if count == 0 {
+                    return false;
+                }
+                done += count;
+            }
+            Err(_) => return false,
+        }
+    }
+    true
+}
+
 // Feeds a piece to the run, and writes what it says, until a write fails.
-fn feed_all(run: Run, piece: &[u8], out: &mut [u8]) -> Written
+fn feed_all<W: Write>(to: &mut W, run: Run, piece: &[u8], out: &mut [u8]) -> Written
     requires { record_most ≤ length out.old }
 {
     let mut now = run;
@@ -67,7 +86,7 @@ fn feed_all(run: Run, piece: &[u8], out: &mut [u8]) -> Written
         let written = fed.written;
         now = next;
         at += taken;
-        if !io::write_all(STDOUT_FILENO, &out[..written]) {
+        if !write_all(to, &out[..written]) {
             return Written {
                 run: now,
                 failed: true,
@@ -80,35 +99,41 @@ fn feed_all(run: Run, piece: &[u8], out: &mut [u8]) -> Written
     }
 }
 
-// Reads a piece of standard input, and feeds it.
-fn move_piece(run: Run, buffer: &mut [u8], out: &mut [u8]) -> Moved
+// Reads a piece of the input, and feeds it.
+fn move_piece<R: Read, W: Write>(
+    from: &mut R,
+    to: &mut W,
+    run: Run,
+    buffer: &mut [u8],
+    out: &mut [u8],
+) -> Moved
     requires { record_most ≤ length out.old }
 {
-    let got = libc::read(STDIN_FILENO, buffer);
-    if got < 0 {
-        return Moved {
+    match from.read(buffer) {
+        Err(_) => Moved {
             run: run,
             step: Step::Unread,
-        };
-    }
-    let count = io::count(got, buffer);
-    if count == 0 {
-        return Moved {
-            run: run,
-            step: Step::End,
-        };
-    }
-    let written = feed_all(run, &buffer[..count], out);
-    let next = written.run;
-    if written.failed {
-        return Moved {
-            run: next,
-            step: Step::Unwritten,
-        };
-    }
-    Moved {
-        run: next,
-        step: Step::More,
+        },
+        Ok(count) => {
+            if count == 0 {
+                return Moved {
+                    run: run,
+                    step: Step::End,
+                };
+            }
+            let written = feed_all(to, run, &buffer[..count], out);
+            let next = written.run;
+            if written.failed {
+                return Moved {
+                    run: next,
+                    step: Step::Unwritten,
+                };
+            }
+            Moved {
+                run: next,
+                step: Step::More,
+            }
+        }
     }
 }
 
@@ -122,16 +147,22 @@ fn is_over(step: Step) -> bool {
     }
 }
 
-// Moves standard input piece by piece, to its end or until a read or a write fails. A proved loop has to
+// Moves the input piece by piece, to its end or until a read or a write fails. A proved loop has to
 // end, and nothing says that an input does: the loop counts its turns down from a number that no run uses
 // up.
-fn move_all(run: Run, buffer: &mut [u8], out: &mut [u8]) -> Moved
+fn move_all<R: Read, W: Write>(
+    from: &mut R,
+    to: &mut W,
+    run: Run,
+    buffer: &mut [u8],
+    out: &mut [u8],
+) -> Moved
     requires { record_most ≤ length out.old }
 {
     let mut now = run;
     let mut turns = u64::MAX;
     while turns > 0 {
-        let moved = move_piece(now, buffer, out);
+        let moved = move_piece(from, to, now, buffer, out);
         let step = moved.step;
         let next = moved.run;
         if is_over(step) {
@@ -150,10 +181,10 @@ fn move_all(run: Run, buffer: &mut [u8], out: &mut [u8]) -> Moved
 }
 
 // Finishes the run, and writes what it says last.
-fn finish(run: Run, out: &mut [u8]) -> Ending {
+fn finish<W: Write>(to: &mut W, run: Run, out: &mut [u8]) -> Ending {
     let finished = reporting::finish(run, out);
     let written = finished.written;
-    if !io::write_all(STDOUT_FILENO, &out[..written]) {
+    if !write_all(to, &out[..written]) {
         return Ending::Unwritten;
     }
     if finished.refused {
@@ -164,15 +195,23 @@ fn finish(run: Run, out: &mut [u8]) -> Ending {
 }
 
 // Reads an input to its end and writes its report.
-pub fn run(stage: Stage) -> Ending {
+pub fn run(stdin: Stdin, stdout: Stdout, stage: Stage) -> Ending {
+    let mut from = stdin;
+    let mut to = stdout;
     let mut buffer = [0u8; PIECE];
     let mut out = [0u8; PIECE];
-    let moved = move_all(reporting::start(stage), &mut buffer, &mut out);
+    let moved = move_all(
+        &mut from,
+        &mut to,
+        reporting::start(stage),
+        &mut buffer,
+        &mut out,
+    );
     let run = moved.run;
     let step = moved.step;
     match step {
-        Step::More => finish(run, &mut out),
-        Step::End => finish(run, &mut out),
+        Step::More => finish(&mut to, run, &mut out),
+        Step::End => finish(&mut to, run, &mut out),
         Step::Unread => Ending::Unread,
         Step::Unwritten => Ending::Unwritten,
     }

@@ -8,6 +8,7 @@ ghost use Rattle.std.specs.Prelude.{◌≤◌, length};
 
 use report_run::Ending;
 use reporting::{Job, Stage};
+use std::rt::{Stdin, Stdout};
 
 // The stage that a program begins in, by a number: 0 check_report, 1 readings, any other recast_report.
 fn stage_of(number: u64) -> Stage {
@@ -40,10 +41,11 @@ pub extern "C" fn trial_report(
 }
 
 // Runs a program's report over standard input and output: 0 nothing refused, 1 something refused, 2 a
-// failure.
+// failure. To C it has the number alone: the two before it are the leave to read and to write, and take no
+// bytes.
 #[unsafe(no_mangle)]
-pub extern "C" fn trial_program(number: u64) -> u64 {
-    match report_run::run(stage_of(number)) {
+pub extern "C" fn trial_program(stdin: Stdin, stdout: Stdout, number: u64) -> u64 {
+    match report_run::run(stdin, stdout, stage_of(number)) {
         Ending::Accepted => 0,
         Ending::Refused => 1,
         Ending::Unread => 2,

@@ -4,6 +4,6 @@
 
 use reporting::Stage;
 
-fn main() {
-    program::run(Stage::Asking, b"test_report_to_1");
+fn main(rt: HostRuntime) {
+    program::run(&rt, Stage::Asking, b"test_report_to_1");
 }

@@ -4,8 +4,8 @@
  * Requests come on standard input and answers go to standard output, in the protocol that src/calls.rs describes, so that what this program
  * writes can be held byte for byte against what `peer calls` writes. It judges no record itself: it takes a line apart, lends the memory,
  * makes the call, or one for every date of a year or for every recast of a record that goes there and back, and prints what came back. Link it
- * with libdesk.a (check and recast: the calls that a host makes) and libtrial.a (the others), which `rt staticlib desk` and `rt staticlib trial`
- * write.
+ * with libdesk.a (check and recast: the calls that a host makes) and libtrial.a (the others), which `rt lib` writes in crates/desk and
+ * crates/trial.
  *
  * One thing of the protocol does not come from a call: where the call sign stands. The proved call shows a part of the caller's own record,
  * which a function for C cannot return, so trial_show copies it. PLACE is 72 where the record has the copied bytes there, and 0 elsewhere.

@@ -2,7 +2,8 @@
  * immt.h - checks and recasts ships' weather records in the IMMT tape format, editions 1, 3 and 4.
  *
  * A record is a line of fixed columns without its line end: 131 bytes in edition 1, 159 in editions 3 and 4. Columns and elements
- * count from 1. Link with libdesk.a, which `rt lib` in crates/desk writes for x86-64; it calls nothing but memcpy and memset. `host/cc` does both.
+ * count from 1. Link with libdesk.a, which `rt lib` in crates/desk writes for x86-64; it calls
+ * nothing but memcpy, memmove and memset. `host/cc` does both.
  *
  * A whole program, which says of each line of its input whether it is a record and, if not, why not (host/test builds and runs it from here):
  *

@@ -1,6 +1,6 @@
 -- What checking a record answers: document 01's rules 1 to 7 in the table's order, the first that fails with its place; and the call sign that is shown.
 -- Assumes nothing.
-use Rattle.std.specs.Prelude.{ℕ, List, [], ◌∷◌, Bool, cond, ◌||◌, eqb, length, get_or}
+use Rattle.std.specs.Prelude.{ℕ, List, [], ◌∷◌, Bool, ◌||◌, eqb, length, get_or}
 use Rattle.text.specs.Bytes.{between, printable, to_last_non_blank}
 use Rattle.text.specs.First.{first_of}
 use Rattle.layout.specs.declared.Named.{Named}
@@ -9,7 +9,6 @@ use Rattle.refusals.specs.declared.Refusal.TheVariants.{Length, Unprintable, For
 use Rattle.layout.specs.Editions.{edition_of, length_of, last_of}
 use Rattle.layout.specs.Page.{legal, text_of}
 use Rattle.refusals.specs.declared.Verdict.{Verdict}
-use Rattle.refusals.specs.declared.Verdict.TheVariants as Verdict
 use Rattle.refusals.specs.Verdicts.{unless, refused_at}
 use Rattle.ties.specs.Ties.{first_broken}
 use Rattle.checking.specs.declared.Answer.{Answer}

@@ -31,7 +31,7 @@ use Rattle.layout.proofs.Parts.{text_byte, one_byte}
 use Rattle.layout.proofs.RecordLaws.{ends, begins, text_long}
 use Rattle.layout.proofs.Beyond.{text_none, last_above}
 use Rattle.places.specs.Places.{octant_fits}
-use Rattle.ties.specs.Ties.{there, place_tie, octant_tie, minus, sign_tie, last_digit, tenths_fit, measured_fit, digit_tie, wind_tie, day_tie, ties, tie}
+use Rattle.ties.specs.Ties.{place_tie, octant_tie, minus, sign_tie, last_digit, tenths_fit, measured_fit, digit_tie, wind_tie, day_tie, ties, tie}
 use Rattle.ties.proofs.Days.{in_every_year}
 use Rattle.columns.specs.Tables.{allowed, joined, cell_of, cells_from, cells, cell_at, bonds, bonds_from, bond_at, inside, after, fits, Columns}
 use Rattle.columns.proofs.Bonds.{after_blank, same_blank, first_says}

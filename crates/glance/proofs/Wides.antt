@@ -1,11 +1,11 @@
 -- An element of more columns than one is blank or one of its texts, where its columns, its bonds and its limits hold. Assumes nothing.
-use mathlib.Core.Path.{◌≡◌, refl, sym, ap, ◌∙◌}
-use mathlib.Core.Bool.{Bool, true, false, not, cond, ◌&&◌, ◌||◌, true≢false}
+use mathlib.Core.Path.{◌≡◌, refl, sym}
+use mathlib.Core.Bool.{Bool, true, false, cond, ◌&&◌, ◌||◌, true≢false}
 use mathlib.Core.List.{List, [], ◌∷◌}
 use mathlib.Core.Logic.{⊎_elim}
 use Prim.Native.Nat.{ℕ, suc, ◌+◌, ◌<◌, ◌≤◌, zero-le, suc-le-suc}
 use native.Mathlib.Omega.{arith}
-use borrow.Author.Tests.{eqb-true, ne_eqb, leb-true, leb-false, le-leb, not-true}
+use borrow.Author.Tests.{eqb-true, ne_eqb, leb-true, leb-false, le-leb}
 use lib.Dec.{eqb, leb}
 use lib.ListN.{length, get_or, drop}
 use Rattle.text.specs.Bytes.{every, between, either, blank, digits, number, word, run}
@@ -20,7 +20,7 @@ use Rattle.numerals.specs.Numerals.{spelled}
 use Rattle.columns.specs.Tables.{allowed, joined, cell_of, fits}
 use Rattle.columns.proofs.Bonds.{after_byte, blanks, whole}
 use Rattle.glance.specs.Tests.{in_limit}
-use Rattle.glance.specs.Limits.{Limit, in_columns, nines, top_of, limit_of, limits}
+use Rattle.glance.specs.Limits.{in_columns, nines, top_of, limit_of, limits}
 
 -- a number is spelled in w columns
 abbrev pub spells : ℕ → ℕ → Bool

@@ -6,7 +6,7 @@ use Rattle.layout.specs.declared.Edition.TheVariants.{One, Three, Four}
 use Rattle.layout.specs.Page.{text_of, is_coordinate, is_sign, is_temperature}
 use Rattle.reading.specs.declared.Reading.{Reading}
 use Rattle.reading.specs.declared.Reading.TheVariants.{Missing, Code, Text, Amount, At}
-use Rattle.reading.specs.Readings.{lead, reading_of}
+use Rattle.reading.specs.Readings.{reading_of}
 use Rattle.meanings.specs.declared.Sense.{Sense}
 use Rattle.meanings.specs.declared.Sense.TheVariants.{
   Alike,

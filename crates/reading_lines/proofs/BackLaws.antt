@@ -8,7 +8,6 @@ use lib.ListN.{length, take}
 use lib.Seq.{take_at}
 use Rattle.layout.specs.declared.Edition.{Edition}
 use Rattle.layout.specs.declared.Named.{Named}
-use Rattle.layout.specs.declared.Named.TheVariants.{Known}
 use Rattle.refusals.specs.declared.Refusal.{Refusal}
 use Rattle.layout.specs.Editions.{asked, edition_number, length_of}
 use Rattle.layout.proofs.RecordLaws.{by_number}

@@ -3,16 +3,13 @@ use Rattle.std.specs.Prelude.{ℕ, ◌+◌, Bool, true, false, cond, ◌&&◌, L
 use Rattle.text.specs.Bytes.{bytes_of}
 use Rattle.layout.specs.declared.Edition.{Edition}
 use Rattle.layout.specs.Editions.{edition_number, longest_record}
-use Rattle.places.specs.declared.Place.{Place}
 use Rattle.checking.specs.declared.Answer.{Answer}
 use Rattle.checking.specs.declared.Answer.TheVariants.{Accepted, Refused}
 use Rattle.checking.specs.Check.{answer_verdict, call_sign_of}
 use Rattle.reading.specs.declared.Kind.{Kind}
 use Rattle.reading.specs.declared.Kind.TheVariants.{Measured, Computed, IcedMeasured, IcedComputed}
-use Rattle.reading.specs.declared.Entry.{Entry}
 use Rattle.reading.specs.declared.Reading.{Reading}
 use Rattle.reading.specs.declared.Reading.TheVariants.{Missing, Code, Text, Amount, At}
-use Rattle.reading.specs.declared.Readings.{Readings}
 use Rattle.reading.specs.Answers.{read_of, readings}
 use Rattle.refusals.specs.Lent.{Call, refusing, writing, Quiet, in_room}
 use Rattle.writing.specs.Written.{written}

@@ -27,7 +27,6 @@ use Rattle.layout.proofs.Demand2Columns.{column_111}
 use Rattle.layout.proofs.Elements.{last_below}
 use Rattle.layout.proofs.Parts.{one_byte}
 use Rattle.layout.proofs.RecordLaws.{shortest, begins, same_record}
-use Rattle.checking.specs.Check.{column}
 use Rattle.checking.specs.Acceptable.{Acceptable}
 use Rattle.checking.proofs.Placed.{first_of_lem}
 use Rattle.places.specs.Column12.{crosses}

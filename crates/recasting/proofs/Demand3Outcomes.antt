@@ -29,7 +29,6 @@ use Rattle.checking.specs.declared.Answer.{Answer}
 use Rattle.checking.specs.declared.Answer.TheVariants.{Accepted, Refused}
 use Rattle.checking.specs.Check.{checked}
 use Rattle.checking.specs.Acceptable.{Acceptable}
-use Rattle.checking.specs.Acceptable as Checking
 use Rattle.checking.proofs.Demand1Refusals.{fits, only_one}
 use Rattle.checking.proofs.Demand2Acceptance.{accepted_exactly}
 use Rattle.recasting.specs.declared.Outcome.{Outcome}

@@ -13,7 +13,7 @@ use lib.Seq.{length-take-le, take-set-le, drop-set-lt, get_or-set_same}
 use Rattle.layout.specs.declared.Edition.{Edition}
 use Rattle.layout.specs.declared.Edition.TheVariants.{Four}
 use Rattle.layout.specs.Editions.{length_of, last_of}
-use Rattle.layout.specs.Page.{page, element, columns, width_of, start_of, text_of, legal_text}
+use Rattle.layout.specs.Page.{page, element, width_of, start_of, text_of, legal_text}
 use Rattle.layout.specs.Records.{record_from}
 use Rattle.layout.proofs.Beyond.{last_above, text_past, width_past}
 use Rattle.layout.proofs.Columns.{start_next, start_rises}

@@ -10,7 +10,7 @@ use Rattle.text.specs.Bytes.{every, blank}
 use Rattle.numerals.proofs.Spellings.{blanks_blank}
 use Rattle.layout.specs.declared.Edition.{Edition}
 use Rattle.layout.specs.Editions.{length_of, last_of}
-use Rattle.layout.specs.Page.{element, width_of, text_of}
+use Rattle.layout.specs.Page.{width_of, text_of}
 use Rattle.layout.proofs.Beyond.{text_none}
 use Rattle.layout.proofs.RecordLaws.{record_long, record_text}
 use Rattle.checking.specs.Acceptable.{Acceptable}

@@ -156,6 +156,7 @@ fn front(text: &[u8], a: u32, b: u32, c: u32, d: u32) -> usize
 }
 
 // Is it a call sign?
+#[tactic(auto, using(crate::proofs::Every::sign_short, crate::proofs::Every::sign_past, crate::proofs::Every::sign_rest))]
 fn is_call_sign(text: &[u8]) -> bool
     ensures { result ≡ call_sign text.now }
 {

@@ -10,7 +10,7 @@ use borrow.Author.Tests.{le-leb, lt-leb, leb-true}
 use lib.Dec.{leb, lit<}
 use lib.IntN.{ℤ, pos}
 use lib.ListN.{length, get_or, take, drop, set, length-set}
-use lib.Seq.{take_all, take-length, take-suc, drop-cons, set_at, append_snoc, length-take-le, get_or-take, get_or-drop}
+use lib.Seq.{take_all, take-suc, drop-cons, set_at, append_snoc, length-take-le, get_or-take, get_or-drop}
 use Rattle.text.proofs.Ways.{and_first, and_second}
 use Rattle.checking.specs.declared.Answer.{Answer}
 use Rattle.reading.specs.declared.Kind.TheVariants.{Measured, Computed, IcedMeasured, IcedComputed}

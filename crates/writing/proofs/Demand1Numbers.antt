@@ -1,6 +1,5 @@
 -- Demand 1: numbers are taken whole. A number past the columns is refused with 6 and does not wrap to one that fits; antt computes the verdict. Assumes nothing.
 use mathlib.Core.Path.{◌≡◌, refl}
-use Prim.Native.Nat.{◌-◌}
 use lib.IntN.{negsuc}
 use Rattle.text.specs.First.{first_from}
 use Rattle.text.specs.Bytes.{every, value_from, run}

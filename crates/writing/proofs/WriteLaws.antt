@@ -5,7 +5,6 @@ use Prim.Native.Nat.{ℕ, ◌<◌, ◌≤◌}
 use native.Mathlib.Omega.{arith}
 use borrow.Author.Tests.{eq-eqb, ne_eqb}
 use lib.ListN.{length, take, drop}
-use lib.Seq.{take-length}
 use Rattle.text.specs.First.{first_of}
 use Rattle.text.proofs.Parts.{front_length}
 use Rattle.layout.specs.declared.Edition.{Edition}

@@ -1,7 +1,6 @@
 -- `blanking::blank_lost` meets its contract. Assumes nothing.
 use mathlib.Core.Path.{sym, ◌∙◌}
 use native.Mathlib.Omega.{arith}
-use borrow.Author.Rules.{rules}
 use Rattle.layout.proofs.RecordLaws.{shortest}
 use Rattle.blanking.proofs.RowLaws.{other_length, in_first, in_others}
 use Rattle.blanking.proofs.blank_lost.Goals as goal

@@ -1,8 +1,7 @@
 -- `blanking::blank_run` meets its contract. Assumes nothing.
 use mathlib.Core.Path.{◌≡◌, refl, ap, ◌∙◌}
-use Prim.Native.Nat.{ℕ, ◌-◌, ◌≤◌}
+use Prim.Native.Nat.{ℕ}
 use native.Mathlib.Omega.{arith}
-use borrow.Author.Rules.{rules}
 use lib.ListN.{length}
 use Rattle.blanking.specs.LostBytes.{run, blanked_by}
 use Rattle.blanking.proofs.Blanked.{blanked_length, one_set, no_run, run_on}

@@ -1,10 +1,6 @@
-use mathlib.Core.Path.{◌≡◌, refl, ap, ◌∙◌}
-use Prim.Native.Nat.{ℕ, ◌-◌, ◌≤◌}
-use native.Mathlib.Omega.{arith}
-use borrow.Author.Rules.{rules}
-use lib.ListN.{length}
+use mathlib.Core.Path.{◌≡◌}
+use Prim.Native.Nat.{◌-◌, ◌≤◌}
 use Rattle.blanking.specs.LostBytes.{run, blanked_by}
-use Rattle.blanking.proofs.Blanked.{blanked_length, one_set, no_run, run_on}
 use Rattle.blanking.proofs.blank_run.Given as goal
 
 abbrev pub invariant-loop-k : goal.invariant-loop-k

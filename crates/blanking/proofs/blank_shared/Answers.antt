@@ -1,5 +1,4 @@
 -- `blanking::blank_shared` meets its contract. Assumes nothing.
-use borrow.Author.Rules.{rules}
 use Rattle.blanking.specs.LostBytes.{codes_lost, country_lost, version_lost, flags_lost, shared_lost}
 use Rattle.blanking.proofs.Blanked.{then_by, tested}
 use Rattle.blanking.proofs.blank_shared.Goals as goal

@@ -1,7 +1,6 @@
 -- `blanking::is_change` meets its contract. Assumes nothing.
 use mathlib.Core.Path.{ap, ap₂, ◌∙◌}
 use mathlib.Core.Bool.{not, beq}
-use borrow.Author.Rules.{rules}
 use Rattle.blanking.proofs.is_change.Goals as goal
 
 pub returns : goal.returns

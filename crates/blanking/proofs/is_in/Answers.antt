@@ -1,5 +1,4 @@
 -- `blanking::is_in` meets its contract. Assumes nothing.
-use borrow.Author.Rules.{rules}
 use Rattle.faults.proofs.Joins.{is_none}
 use Rattle.blanking.proofs.is_in.Goals as goal
 

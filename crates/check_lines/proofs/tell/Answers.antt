@@ -4,7 +4,6 @@ use Rattle.checking.proofs.Demand2Acceptance.{accepted_exactly}
 use Rattle.wording.proofs.PutLaws.{also}
 use mathlib.Core.Path.{◌∙◌, sym}
 use native.Mathlib.Omega.{arith}
-use borrow.Author.Rules.{rules}
 use Rattle.check_lines.proofs.tell.Goals as goal
 
 pub call_sign_after-sign-requires : goal.call_sign_after-sign-requires

@@ -2,7 +2,6 @@
 use Rattle.text.proofs.Parts.{front_length}
 use Rattle.checking.proofs.SignLaws.{long, shown}
 use Rattle.checking.specs.Check.{call_sign_of}
-use borrow.Author.Rules.{rules}
 use lib.Dec.{lit≤}
 use native.Mathlib.Omega.{arith}
 use Rattle.checking.proofs.call_sign_after.Goals as goal

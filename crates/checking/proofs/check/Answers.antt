@@ -1,6 +1,5 @@
 -- `checking::check` meets its contract. Assumes nothing.
 use mathlib.Core.Path.{sym}
-use borrow.Author.Rules.{rules}
 use Rattle.checking.proofs.Demand2Acceptance.{accepted_exactly}
 use Rattle.checking.proofs.LegalLaws.{legal_record}
 use Rattle.checking.proofs.check.Goals as goal

@@ -1,7 +1,5 @@
 -- `checking::check_in` meets its contract. Assumes nothing.
 use Rattle.checking.proofs.CheckLaws.{accepted, broken, illegal, wrong_length}
-use borrow.Author.Rules.{rules}
-use lib.ListN.{length}
 use mathlib.Core.Path.{◌∙◌, sym}
 use Rattle.checking.proofs.check_in.Goals as goal
 

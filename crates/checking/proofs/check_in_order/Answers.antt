@@ -2,8 +2,7 @@
 use Prim.Native.Nat.{ℕ}
 use Rattle.checking.proofs.CheckLaws.{by_edition, long_enough, unknown_format, unknown_length, unprintable}
 use Rattle.checking.specs.Check.{known_format, checked_in}
-use borrow.Author.Rules.{rules}
-use borrow.Author.Tests.{eq-eqb, ne_eqb, not-false, not-true}
+use borrow.Author.Tests.{eq-eqb, ne_eqb}
 use Rattle.faults.proofs.Joins.{is_none}
 use mathlib.Core.List.{List}
 use mathlib.Core.Path.{◌∙◌, ◌≡◌, ap, sym}

@@ -1,13 +1,8 @@
 use Prim.Native.Nat.{◌+◌, ◌-◌, ◌≤◌}
-use mathlib.Core.Path.{◌∙◌, ◌≡◌, sym}
-use native.Mathlib.Omega.{arith}
-use borrow.Author.Rules.{rules}
-use borrow.Author.Tests.{eq-eqb, ne_eqb}
+use mathlib.Core.Path.{◌≡◌}
 use lib.ListN.{length}
 use Rattle.text.specs.First.{first_from, first_of}
-use Rattle.text.proofs.First.{begin, end, off, on}
 use Rattle.checking.specs.Check.{printable_at}
-use Rattle.checking.proofs.Placed.{printed}
 use Rattle.checking.proofs.first_unprintable.Given as goal
 
 abbrev pub invariant-loop-c : goal.invariant-loop-c

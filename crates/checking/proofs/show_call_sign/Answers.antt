@@ -2,7 +2,6 @@
 use Rattle.checking.proofs.Demand2Acceptance.{accepted_exactly}
 use Rattle.checking.specs.declared.Answer.{Answer}
 use Rattle.checking.specs.Check.{call_sign_of}
-use borrow.Author.Rules.{rules}
 use mathlib.Core.Path.{◌∙◌, ap, sym}
 use Rattle.checking.proofs.show_call_sign.Goals as goal
 

@@ -2,7 +2,6 @@
 use Rattle.refusals.specs.Verdicts.{verdict_number, verdict_place}
 use Rattle.checking.specs.Check.{answer_verdict}
 use Rattle.reading.proofs.Request6Readings.{checks}
-use borrow.Author.Rules.{rules}
 use mathlib.Core.Path.{◌∙◌, ap, sym}
 use Rattle.desk.proofs.immt_check.Goals as goal
 

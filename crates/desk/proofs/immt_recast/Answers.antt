@@ -2,7 +2,6 @@
 use Rattle.element_sets.specs.declared.ElementSet.{ElementSet}
 use Rattle.refusals.specs.Verdicts.{verdict_number, verdict_place}
 use Rattle.recasting.specs.declared.Outcome.{Outcome}
-use borrow.Author.Rules.{rules}
 use mathlib.Core.Path.{◌∙◌, ap}
 use Rattle.desk.proofs.immt_recast.Goals as goal
 

@@ -1,6 +1,5 @@
 -- `glance::alike` meets its contract. Assumes nothing.
 use Rattle.faults.proofs.Joins.{two_of}
-use borrow.Author.Rules.{rules}
 use Rattle.glance.proofs.alike.Goals as goal
 
 pub returns : goal.returns

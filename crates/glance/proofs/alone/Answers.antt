@@ -1,7 +1,6 @@
 -- `glance::alone` meets its contract. Assumes nothing.
 use Rattle.faults.proofs.Joins.{either_of}
 use Rattle.glance.specs.Tests.{needs as needed}
-use borrow.Author.Rules.{rules}
 use Rattle.glance.proofs.alone.Goals as goal
 
 pub returns : goal.returns

@@ -1,7 +1,6 @@
 -- `glance::backwards` meets its contract. Assumes nothing.
 use native.Mathlib.Omega.{arith}
 use Rattle.glance.specs.Tests.{last_highest}
-use borrow.Author.Rules.{rules}
 use Rattle.glance.proofs.backwards.Goals as goal
 
 pub returns : goal.returns

@@ -1,7 +1,6 @@
 -- `glance::beyond` meets its contract. Assumes nothing.
 use Rattle.faults.proofs.Joins.{both, either_of}
 use Rattle.glance.specs.Tests.{in_limit}
-use borrow.Author.Rules.{rules}
 use Rattle.glance.proofs.beyond.Goals as goal
 
 pub returns : goal.returns

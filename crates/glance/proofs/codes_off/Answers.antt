@@ -10,7 +10,6 @@ use Rattle.layout.proofs.RecordLaws.{begins}
 use Rattle.faults.specs.Faults.{no}
 use Rattle.faults.proofs.Joins.{two_of, passed}
 use Rattle.glance.specs.Tests.{neither}
-use borrow.Author.Rules.{rules}
 use Rattle.glance.proofs.codes_off.Goals as goal
 
 pub first_byte-requires : goal.first_byte-requires

@@ -6,7 +6,6 @@ use Rattle.layout.specs.declared.Edition.TheVariants.{One}
 use Rattle.layout.proofs.RecordLaws.{ends}
 use Rattle.faults.proofs.Joins.{passed}
 use Rattle.glance.specs.Tests.{common}
-use borrow.Author.Rules.{rules}
 use Rattle.glance.proofs.day_off.Goals as goal
 
 pub word_of-requires : goal.word_of-requires

@@ -6,8 +6,6 @@ use lib.Dec.{lit≤}
 use Rattle.layout.specs.declared.Edition.TheVariants.{One}
 use Rattle.layout.specs.Editions.{edition_of}
 use Rattle.layout.proofs.RecordLaws.{begins}
-use borrow.Author.Tests.{not-false}
-use borrow.Author.Rules.{rules}
 use Rattle.glance.proofs.edition_of.Goals as goal
 
 pub returns-then-line-lt-LENGTH_1 : goal.returns-then-line-lt-LENGTH_1

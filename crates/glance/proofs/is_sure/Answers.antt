@@ -6,7 +6,6 @@ use borrow.Author.Tests.{eqb-true}
 use Rattle.text.proofs.Bits.{or_left, or_right}
 use Rattle.layout.proofs.RecordLaws.{shortest}
 use Rattle.glance.proofs.Sound.{surely_sound}
-use borrow.Author.Rules.{rules}
 use Rattle.glance.proofs.is_sure.Goals as goal
 
 pub shared-requires : goal.shared-requires

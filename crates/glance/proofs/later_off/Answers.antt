@@ -8,7 +8,6 @@ use Rattle.layout.proofs.RecordLaws.{has_first}
 use Rattle.faults.specs.Faults.{no}
 use Rattle.faults.proofs.Joins.{two_of, passed}
 use Rattle.glance.specs.Tests as Tests
-use borrow.Author.Rules.{rules}
 use Rattle.glance.proofs.later_off.Goals as goal
 
 pub first_byte-requires : goal.first_byte-requires

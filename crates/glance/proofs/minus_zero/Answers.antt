@@ -1,7 +1,6 @@
 -- `glance::minus_zero` meets its contract. Assumes nothing.
 use Rattle.faults.proofs.Joins.{both}
 use Rattle.glance.specs.Tests.{plus_zero}
-use borrow.Author.Rules.{rules}
 use Rattle.glance.proofs.minus_zero.Goals as goal
 
 pub returns : goal.returns

@@ -1,11 +1,10 @@
 -- `glance::octant_off` meets its contract. Assumes nothing.
 use mathlib.Core.Path.{◌≡◌, ◌∙◌, sym}
-use mathlib.Core.Bool.{Bool, true, false}
+use mathlib.Core.Bool.{true, false}
 use Prim.Native.Nat.{ℕ}
 use lib.Dec.{leb}
 use Rattle.faults.specs.Faults.{no}
 use Rattle.glance.specs.Tests.{far, octant_near}
-use borrow.Author.Rules.{rules}
 use Rattle.glance.proofs.octant_off.Goals as goal
 
 reaching : (octant longitude : ℕ) {r : ℕ} → far octant ≡ true → r ≡ no (leb 809054256 longitude) → r ≡ no (octant_near octant longitude)

@@ -2,7 +2,6 @@
 use mathlib.Core.Path.{◌∙◌, ap, sym}
 use Rattle.faults.proofs.Joins.{passed}
 use Rattle.glance.specs.Tests.{in_limit}
-use borrow.Author.Rules.{rules}
 use Rattle.glance.proofs.off.Goals as goal
 
 pub returns : goal.returns

@@ -1,7 +1,6 @@
 -- `glance::one_of` meets its contract. Assumes nothing.
 use Rattle.faults.proofs.Joins.{both}
 use Rattle.glance.specs.Tests.{neither}
-use borrow.Author.Rules.{rules}
 use Rattle.glance.proofs.one_of.Goals as goal
 
 pub returns : goal.returns

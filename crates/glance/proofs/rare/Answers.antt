@@ -1,7 +1,6 @@
 -- `glance::rare` meets its contract. Assumes nothing.
 use Rattle.faults.proofs.Joins.{both, either_of}
 use Rattle.glance.specs.Tests.{common}
-use borrow.Author.Rules.{rules}
 use Rattle.glance.proofs.rare.Goals as goal
 
 pub returns : goal.returns

@@ -9,7 +9,6 @@ use Rattle.layout.proofs.RecordLaws.{ends, begins}
 use Rattle.faults.proofs.Joins.{passed}
 use Rattle.glance.specs.Tests.{octant_near}
 use Rattle.glance.specs.Sure.{Rest}
-use borrow.Author.Rules.{rules}
 use Rattle.glance.proofs.rest.Goals as goal
 
 pub first_byte-requires : goal.first_byte-requires

@@ -8,7 +8,6 @@ use Rattle.text.proofs.Bits.{or_left, or_right}
 use lib.Bits.{bit_and}
 use Rattle.faults.proofs.Joins.{passed, either_of}
 use Rattle.glance.specs.Tests.{last_highest, plus_zero, last_fits}
-use borrow.Author.Rules.{rules}
 use Rattle.glance.proofs.temperature.Goals as goal
 
 pub returns : goal.returns

@@ -11,7 +11,6 @@ use Rattle.layout.proofs.RecordLaws.{begins}
 use Rattle.faults.proofs.Joins.{two_of}
 use Rattle.glance.specs.Tests.{top_digit, half_digit}
 use Rattle.glance.specs.Sure.{Temperature, Degrees}
-use borrow.Author.Rules.{rules}
 use Rattle.glance.proofs.temperatures.Goals as goal
 
 -- by the digits that column 1 takes

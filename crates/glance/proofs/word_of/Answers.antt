@@ -1,7 +1,6 @@
 -- `glance::word_of` meets its contract. Assumes nothing.
 use mathlib.Core.Path.{◌∙◌, ap}
 use Rattle.text.specs.Bytes.{word}
-use borrow.Author.Rules.{rules}
 use Rattle.glance.proofs.word_of.Goals as goal
 
 pub returns : goal.returns

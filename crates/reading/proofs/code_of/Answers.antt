@@ -1,6 +1,5 @@
 -- `reading::code_of` meets its contract. Assumes nothing.
 use Rattle.reading.proofs.ReadingLaws.{high_pressure, low_pressure, other_code}
-use borrow.Author.Rules.{rules}
 use Rattle.reading.proofs.code_of.Goals as goal
 
 pub returns-then-e-ne20 : goal.returns-then-e-ne20

@@ -1,6 +1,5 @@
 -- `reading::column_of` meets its contract. Assumes nothing.
 use Rattle.reading.proofs.ColumnLaws.{column_code, column_missing, column_text}
-use borrow.Author.Rules.{rules}
 use lib.Dec.{lit≤}
 use Rattle.reading.proofs.column_of.Goals as goal
 

@@ -1,6 +1,5 @@
 -- `reading::departure_of` meets its contract. Assumes nothing.
 use Rattle.reading.proofs.ReadingLaws.{is_departure_lem, no_departure}
-use borrow.Author.Rules.{rules}
 use mathlib.Core.Path.{◌∙◌}
 use mir.Facts.{to_z-of_z}
 use mir.Syntax.{w64}

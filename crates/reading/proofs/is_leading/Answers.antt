@@ -1,5 +1,4 @@
 -- `reading::is_leading` meets its contract. Assumes nothing.
-use borrow.Author.Rules.{rules}
 use borrow.Author.Tests.{eq-eqb, ne_eqb}
 use Rattle.reading.proofs.is_leading.Goals as goal
 

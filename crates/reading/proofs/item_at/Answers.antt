@@ -6,7 +6,6 @@ use Rattle.layout.proofs.Parts.{own_columns, own_width}
 use Rattle.layout.specs.Page.{start_of, text_of}
 use Rattle.reading.proofs.ReadingLaws.{from_three, from_two, item_place, item_temperature, leads_low, leads_sign}
 use Rattle.reading.specs.Readings.{place_of, temperature}
-use borrow.Author.Rules.{rules}
 use lib.Dec.{lit≤}
 use mathlib.Core.Path.{◌∙◌, ◌≡◌, ap, refl, sym}
 use native.Mathlib.Omega.{arith}

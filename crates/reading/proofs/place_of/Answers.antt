@@ -1,6 +1,5 @@
 -- `reading::place_of` meets its contract. Assumes nothing.
 use Rattle.reading.proofs.ReadingLaws.{is_place, no_digit, no_latitude, no_longitude}
-use borrow.Author.Rules.{rules}
 use Rattle.reading.proofs.place_of.Goals as goal
 
 pub returns-then-is_blank : goal.returns-then-is_blank

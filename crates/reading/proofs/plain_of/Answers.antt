@@ -1,7 +1,5 @@
 -- `reading::plain_of` meets its contract. Assumes nothing.
 use Rattle.reading.proofs.ReadingLaws.{plain_code, plain_missing, plain_other, plain_text}
-use borrow.Author.Rules.{rules}
-use borrow.Author.Tests.{not-false, not-true}
 use Rattle.reading.proofs.plain_of.Goals as goal
 
 pub returns-then-is_blank : goal.returns-then-is_blank

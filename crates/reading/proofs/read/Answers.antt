@@ -2,7 +2,6 @@
 use Rattle.checking.proofs.Demand2Acceptance.{accepted_exactly}
 use Rattle.checking.specs.declared.Answer.{Answer}
 use Rattle.reading.specs.Answers.{read_after}
-use borrow.Author.Rules.{rules}
 use mathlib.Core.Path.{◌∙◌, ap, sym}
 use Rattle.reading.proofs.read.Goals as goal
 

@@ -13,7 +13,6 @@ use Rattle.reading.specs.declared.Reading.{Reading}
 use Rattle.reading.specs.Answers.{entries_from, entries_of, read_after}
 use Rattle.reading.specs.Readings.{departure, item_of, plain, reading_of}
 use borrow.Author.Rules.{rules}
-use lib.Dec.{eqb}
 use lib.ListN.{drop, get_or, length, set, take}
 use mathlib.Core.Bool.{cond, true}
 use mathlib.Core.List.{[], ◌∷◌}

@@ -1,6 +1,5 @@
 -- `reading::temperature_of` meets its contract. Assumes nothing.
 use Rattle.reading.proofs.ReadingLaws.{is_temperature_lem, no_sign, no_value}
-use borrow.Author.Rules.{rules}
 use mathlib.Core.Path.{◌∙◌}
 use mir.Facts.{to_z-of_z}
 use mir.Syntax.{w64}

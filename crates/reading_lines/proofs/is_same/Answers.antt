@@ -1,11 +1,7 @@
 -- `reading_lines::is_same` meets its contract. Assumes nothing.
-use Prim.Native.Nat.{◌-◌, ◌≤◌}
 use Rattle.reading_lines.proofs.LineLaws.{other_byte, other_length, same_byte, same_end}
-use Rattle.reading_lines.specs.Sentences.{same_text}
-use lib.ListN.{drop, length}
-use mathlib.Core.Path.{◌≡◌, refl}
+use mathlib.Core.Path.{refl}
 use native.Mathlib.Omega.{arith}
-use borrow.Author.Rules.{rules}
 use Rattle.reading_lines.proofs.is_same.Goals as goal
 
 pub returns-then-a-b : goal.returns-then-a-b

@@ -4,7 +4,6 @@ use Rattle.layout.proofs.RecordLaws.{most}
 use Rattle.text.proofs.Parts.{front_length}
 use mathlib.Core.Path.{◌∙◌, refl}
 use native.Mathlib.Omega.{arith}
-use borrow.Author.Rules.{rules}
 use Rattle.reading_lines.proofs.is_written_back.Goals as goal
 
 pub slice_bounds-buffer-end : goal.slice_bounds-buffer-end

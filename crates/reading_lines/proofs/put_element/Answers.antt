@@ -2,7 +2,6 @@
 use Rattle.text.specs.Bytes.{bytes_of}
 use Rattle.wording.proofs.PutLaws.{also}
 use native.Mathlib.Omega.{arith}
-use borrow.Author.Rules.{rules}
 use Rattle.reading_lines.proofs.put_element.Goals as goal
 
 pub returns-clause-puts : goal.returns-clause-puts

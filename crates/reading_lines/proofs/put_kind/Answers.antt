@@ -2,7 +2,6 @@
 use Rattle.reading_lines.specs.Sentences.{kind_words}
 use Rattle.text.specs.Bytes.{bytes_of}
 use native.Mathlib.Omega.{arith}
-use borrow.Author.Rules.{rules}
 use Rattle.reading_lines.proofs.put_kind.Goals as goal
 
 pub returns-in-Measured-clause-puts : goal.returns-in-Measured-clause-puts

@@ -6,7 +6,6 @@ use Rattle.wording.proofs.PutLaws.{also, renamed}
 use Rattle.wording.specs.Wording.{line_end, signed_decimal}
 use mathlib.Core.Path.{ap}
 use native.Mathlib.Omega.{arith}
-use borrow.Author.Rules.{rules}
 use Rattle.reading_lines.proofs.put_place.Goals as goal
 
 pub returns-clause-puts : goal.returns-clause-puts

@@ -7,7 +7,6 @@ use Rattle.wording.proofs.PutLaws.{nothing, renamed}
 use lib.IntN.{ℤ}
 use mathlib.Core.Path.{ap}
 use native.Mathlib.Omega.{arith}
-use borrow.Author.Rules.{rules}
 use Rattle.reading_lines.proofs.put_reading.Goals as goal
 
 pub returns-in-Missing-clause-puts : goal.returns-in-Missing-clause-puts

@@ -1,6 +1,5 @@
 -- `reading_lines::put_readings` meets its contract. Assumes nothing.
-use Prim.Native.Nat.{◌-◌}
-use Rattle.reading_lines.proofs.LineLaws.{Lines, lines_all, lines_more, lines_none}
+use Rattle.reading_lines.proofs.LineLaws.{lines_all, lines_more, lines_none}
 use native.Mathlib.Omega.{arith}
 use borrow.Author.Rules.{rules}
 use Rattle.reading_lines.proofs.put_readings.Goals as goal

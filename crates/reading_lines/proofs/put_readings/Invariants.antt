@@ -1,7 +1,5 @@
 use Prim.Native.Nat.{◌-◌}
-use Rattle.reading_lines.proofs.LineLaws.{Lines, lines_all, lines_more, lines_none}
-use native.Mathlib.Omega.{arith}
-use borrow.Author.Rules.{rules}
+use Rattle.reading_lines.proofs.LineLaws.{Lines}
 use Rattle.reading_lines.proofs.put_readings.Given as goal
 
 abbrev pub invariant-loop-k : goal.invariant-loop-k

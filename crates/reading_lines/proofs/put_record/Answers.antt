@@ -4,7 +4,6 @@ use Rattle.reading_lines.specs.Sentences.{read_text}
 use Rattle.wording.proofs.PutLaws.{also}
 use mathlib.Core.Path.{◌∙◌, ◌≡◌, ap}
 use native.Mathlib.Omega.{arith}
-use borrow.Author.Rules.{rules}
 use Rattle.reading_lines.proofs.put_record.Goals as goal
 
 pub call_sign_after-sign-requires : goal.call_sign_after-sign-requires

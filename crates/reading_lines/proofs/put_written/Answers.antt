@@ -3,7 +3,6 @@ use Rattle.reading_lines.specs.Sentences.{written_line}
 use Rattle.text.specs.Bytes.{bytes_of}
 use Rattle.wording.proofs.PutLaws.{also}
 use native.Mathlib.Omega.{arith}
-use borrow.Author.Rules.{rules}
 use Rattle.reading_lines.proofs.put_written.Goals as goal
 
 pub returns-then-is_back-clause-puts : goal.returns-then-is_back-clause-puts

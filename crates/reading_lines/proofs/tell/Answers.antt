@@ -1,7 +1,6 @@
 -- `reading_lines::tell` meets its contract. Assumes nothing.
 use Rattle.reading_lines.proofs.ReadTold.{accepted_long, accepted_told, refused_told}
 use native.Mathlib.Omega.{arith}
-use borrow.Author.Rules.{rules}
 use Rattle.reading_lines.proofs.tell.Goals as goal
 
 pub put_record-requires : goal.put_record-requires

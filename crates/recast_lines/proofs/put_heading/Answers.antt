@@ -4,7 +4,6 @@ use Rattle.text.specs.Bytes.{bytes_of}
 use Rattle.wording.proofs.PutLaws.{also}
 use Rattle.wording.specs.Wording.{line_end}
 use native.Mathlib.Omega.{arith}
-use borrow.Author.Rules.{rules}
 use Rattle.recast_lines.proofs.put_heading.Goals as goal
 
 pub returns-clause-puts : goal.returns-clause-puts

@@ -2,7 +2,6 @@
 use Rattle.recast_lines.specs.Sentences.{not_held}
 use Rattle.text.specs.Bytes.{bytes_of}
 use native.Mathlib.Omega.{arith}
-use borrow.Author.Rules.{rules}
 use Rattle.recast_lines.proofs.put_not_held.Goals as goal
 
 pub returns-clause-puts : goal.returns-clause-puts

@@ -2,7 +2,6 @@
 use Rattle.recast_lines.specs.Sentences.{line_of}
 use mathlib.Core.Path.{refl}
 use native.Mathlib.Omega.{arith}
-use borrow.Author.Rules.{rules}
 use Rattle.recast_lines.proofs.put_outcome.Goals as goal
 
 pub returns-in-Fine : goal.returns-in-Fine

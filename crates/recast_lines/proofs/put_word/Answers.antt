@@ -1,9 +1,8 @@
 -- `recast_lines::put_word` meets its contract: what is left to put gives what the whole gives. Assumes nothing.
-use Prim.Native.Nat.{◌-◌, ◌≤◌}
-use Rattle.recast_lines.proofs.LostLaws.{told, told_next, told_none, told_some}
-use Rattle.wording.proofs.PutLaws.{Left, left_all, left_end, left_put}
+use Prim.Native.Nat.{◌-◌}
+use Rattle.recast_lines.proofs.LostLaws.{told_next, told_none, told_some}
+use Rattle.wording.proofs.PutLaws.{left_all, left_end, left_put}
 use Rattle.text.specs.Bytes.{bytes_of}
-use borrow.Author.Rules.{rules}
 use lib.Bits.{and_le_r}
 use lib.Count.{trailing_le}
 use native.Mathlib.Omega.{arith}

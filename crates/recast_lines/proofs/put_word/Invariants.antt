@@ -1,11 +1,6 @@
-use Prim.Native.Nat.{◌-◌, ◌≤◌}
-use Rattle.recast_lines.proofs.LostLaws.{told, told_next, told_none, told_some}
-use Rattle.wording.proofs.PutLaws.{Left, left_all, left_end, left_put}
-use Rattle.text.specs.Bytes.{bytes_of}
-use borrow.Author.Rules.{rules}
-use lib.Bits.{and_le_r}
-use lib.Count.{trailing_le}
-use native.Mathlib.Omega.{arith}
+use Prim.Native.Nat.{◌≤◌}
+use Rattle.recast_lines.proofs.LostLaws.{told}
+use Rattle.wording.proofs.PutLaws.{Left}
 use Rattle.recast_lines.proofs.put_word.Given as goal
 
 abbrev pub invariant-loop-left : goal.invariant-loop-left

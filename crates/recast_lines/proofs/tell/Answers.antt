@@ -8,7 +8,6 @@ use Rattle.report_lines.specs.Says.{Says}
 use Rattle.recast_lines.specs.Sentences.{recast_line}
 use Rattle.recasting.specs.Recast.{recast_of, outcome_in}
 use mathlib.Core.Path.{◌≡◌, ◌∙◌, ap}
-use borrow.Author.Rules.{rules}
 use Rattle.recast_lines.proofs.tell.Goals as goal
 
 -- what is said of an outcome is said of the same outcome

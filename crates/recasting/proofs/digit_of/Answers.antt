@@ -1,6 +1,5 @@
 -- `recasting::digit_of` meets its contract. Assumes nothing.
 use Prim.Native.Nat.{◌≤◌}
-use borrow.Author.Rules.{rules}
 use native.Mathlib.Omega.{arith}
 use lib.Dec.{lit≤}
 use Rattle.layout.specs.declared.Edition.{Edition}

@@ -1,5 +1,4 @@
 -- `recasting::fill` meets its contract. Assumes nothing.
-use borrow.Author.Rules.{rules}
 use mathlib.Core.Path.{sym, ◌∙◌}
 use native.Mathlib.Omega.{arith}
 use Rattle.layout.proofs.RecordLaws.{shortest}

@@ -1,6 +1,5 @@
 -- `recasting::put` meets its contract. Assumes nothing.
 use Prim.Native.Nat.{ℕ}
-use borrow.Author.Rules.{rules}
 use mathlib.Core.Path.{ap}
 use lib.ListN.{set}
 use Rattle.recasting.proofs.put.Goals as goal

@@ -3,7 +3,6 @@ use Rattle.refusals.proofs.LentLaws.{refuses, same_call}
 use Rattle.checking.specs.declared.Answer.{Answer}
 use Rattle.recasting.proofs.RecastLaws.{at_answer}
 use Rattle.recasting.specs.Recast.{recast_after, outcome_of}
-use borrow.Author.Rules.{rules}
 use mathlib.Core.Path.{◌∙◌, ap, sym}
 use Rattle.recasting.proofs.recast.Goals as goal
 

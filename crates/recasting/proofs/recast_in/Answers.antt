@@ -1,5 +1,4 @@
 -- `recasting::recast_in` meets its contract. Assumes nothing.
-use borrow.Author.Rules.{rules}
 use mathlib.Core.Path.{ap, refl, sym, ◌∙◌}
 use Rattle.text.proofs.Parts.{front_length}
 use Rattle.refusals.proofs.LentLaws.{cramped, writes}

@@ -3,7 +3,6 @@ use Rattle.refusals.proofs.LentLaws.{refuses, same_call}
 use Rattle.layout.specs.declared.Named.{Named}
 use Rattle.recasting.proofs.RecastLaws.{at_name}
 use Rattle.recasting.specs.Recast.{recast_to, outcome_of}
-use borrow.Author.Rules.{rules}
 use mathlib.Core.Path.{◌∙◌, ap, sym}
 use Rattle.recasting.proofs.recast_to.Goals as goal
 

@@ -1,5 +1,4 @@
 -- `recasting::refused` meets its contract. Assumes nothing.
-use borrow.Author.Rules.{rules}
 use Rattle.refusals.specs.declared.Verdict.TheVariants.{Refused}
 use mathlib.Core.Path.{ap}
 use Rattle.element_sets.specs.declared.ElementSet.{ElementSet}

@@ -1,7 +1,6 @@
 -- `reporting::asked_by` meets its contract. Assumes nothing.
 use Rattle.reporting.proofs.TellLaws.{asks, asks_none}
 use mathlib.Core.Path.{◌∙◌}
-use borrow.Author.Rules.{rules}
 use Rattle.reporting.proofs.asked_by.Goals as goal
 
 pub returns-then-line-ne1 : goal.returns-then-line-ne1

@@ -1,9 +1,6 @@
 -- `reporting::feed` meets its contract: line after line, what is taken of the piece so far has led to the run and to the text. Assumes nothing.
-use Prim.Native.Nat.{◌-◌}
-use Rattle.reporting.proofs.FeedLaws.{SoFar, feeds, so_far_kept, so_far_line, so_far_none}
-use Rattle.reporting.specs.Run.{state}
+use Rattle.reporting.proofs.FeedLaws.{feeds, so_far_kept, so_far_line, so_far_none}
 use borrow.Author.Rules.{rules}
-use lib.ListN.{length, take}
 use mathlib.Core.Path.{◌∙◌, sym}
 use native.Mathlib.Omega.{arith}
 use Rattle.reporting.proofs.feed.Goals as goal

@@ -1,10 +1,7 @@
 use Prim.Native.Nat.{◌-◌}
-use Rattle.reporting.proofs.FeedLaws.{SoFar, feeds, so_far_kept, so_far_line, so_far_none}
+use Rattle.reporting.proofs.FeedLaws.{SoFar}
 use Rattle.reporting.specs.Run.{state}
-use borrow.Author.Rules.{rules}
 use lib.ListN.{length, take}
-use mathlib.Core.Path.{◌∙◌, sym}
-use native.Mathlib.Omega.{arith}
 use Rattle.reporting.proofs.feed.Given as goal
 
 abbrev pub invariant-loop-at : goal.invariant-loop-at

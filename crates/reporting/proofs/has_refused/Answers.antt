@@ -2,7 +2,6 @@
 use Rattle.reporting.proofs.TellLaws.{stage_refused}
 use Rattle.reporting.specs.declared.Stage.TheVariants.{Asking, Closed, Telling}
 use mathlib.Core.Path.{refl}
-use borrow.Author.Rules.{rules}
 use Rattle.reporting.proofs.has_refused.Goals as goal
 
 pub returns-in-Asking : goal.returns-in-Asking

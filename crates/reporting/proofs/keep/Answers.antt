@@ -1,8 +1,7 @@
 -- `reporting::keep` meets its contract: what is held is what was held and the bytes passed. Assumes nothing.
-use Prim.Native.Nat.{ℕ, ◌+◌, ◌-◌, ◌≤◌}
+use Prim.Native.Nat.{ℕ, ◌+◌}
 use Rattle.reporting.proofs.KeepLaws.{keep_end, keep_turn}
-use borrow.Author.Rules.{rules}
-use lib.ListN.{length, length-set, take}
+use lib.ListN.{length-set, take}
 use mathlib.Core.List.{◌++◌, append-nil}
 use native.Mathlib.Nat.{add-zero}
 use mathlib.Core.Path.{◌∙◌, ◌≡◌, ap, refl, sym}

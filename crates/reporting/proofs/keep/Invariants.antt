@@ -1,11 +1,7 @@
-use Prim.Native.Nat.{ℕ, ◌+◌, ◌-◌, ◌≤◌}
-use Rattle.reporting.proofs.KeepLaws.{keep_end, keep_turn}
-use borrow.Author.Rules.{rules}
-use lib.ListN.{length, length-set, take}
-use mathlib.Core.List.{◌++◌, append-nil}
-use native.Mathlib.Nat.{add-zero}
-use mathlib.Core.Path.{◌∙◌, ◌≡◌, ap, refl, sym}
-use native.Mathlib.Omega.{arith}
+use Prim.Native.Nat.{◌+◌, ◌-◌, ◌≤◌}
+use lib.ListN.{length, take}
+use mathlib.Core.List.{◌++◌}
+use mathlib.Core.Path.{◌≡◌}
 use Rattle.reporting.proofs.keep.Given as goal
 
 abbrev pub invariant-loop-i : goal.invariant-loop-i

@@ -1,6 +1,5 @@
 -- `reporting::one_more` meets its contract. Assumes nothing.
 use Rattle.reporting.proofs.TellLaws.{more, no_more}
-use borrow.Author.Rules.{rules}
 use Rattle.reporting.proofs.one_more.Goals as goal
 
 pub returns-then-n-lt18446744073709551615 : goal.returns-then-n-lt18446744073709551615

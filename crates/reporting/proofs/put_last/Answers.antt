@@ -3,7 +3,6 @@ use Rattle.reporting.proofs.TellLaws.{stage_last}
 use Rattle.wording.proofs.PutLaws.{nothing}
 use Rattle.reporting.specs.declared.Stage.TheVariants.{Asking, Closed, Telling}
 use native.Mathlib.Omega.{arith}
-use borrow.Author.Rules.{rules}
 use Rattle.reporting.proofs.put_last.Goals as goal
 
 pub returns-in-Asking-clause-puts : goal.returns-in-Asking-clause-puts

@@ -1,5 +1,4 @@
 -- `reporting::refused_after` meets its contract. Assumes nothing.
-use borrow.Author.Rules.{rules}
 use Rattle.reporting.proofs.refused_after.Goals as goal
 
 pub returns-then-is_refused : goal.returns-then-is_refused

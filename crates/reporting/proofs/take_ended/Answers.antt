@@ -3,7 +3,6 @@ use Rattle.reporting.proofs.TellLaws.{cut_tells}
 use lib.Seq.{length-take-le}
 use mathlib.Core.Path.{sym}
 use native.Mathlib.Omega.{arith}
-use borrow.Author.Rules.{rules}
 use Rattle.reporting.proofs.take_ended.Goals as goal
 
 pub returns-then-count-eq0 : goal.returns-then-count-eq0

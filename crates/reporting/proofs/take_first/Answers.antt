@@ -2,7 +2,6 @@
 use Rattle.reporting.proofs.TellLaws.{first_tells}
 use Rattle.layout.specs.declared.Named.TheVariants.{Known, Unknown}
 use mathlib.Core.Path.{◌∙◌, sym}
-use borrow.Author.Rules.{rules}
 use Rattle.reporting.proofs.take_first.Goals as goal
 
 pub returns-in-Known : goal.returns-in-Known

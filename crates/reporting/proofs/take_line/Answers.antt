@@ -1,7 +1,6 @@
 -- `reporting::take_line` meets its contract. Assumes nothing.
 use Rattle.reporting.proofs.TellLaws.{closed_tells, stage_tells}
 use Rattle.reporting.specs.declared.Stage.TheVariants.{Asking, Telling}
-use borrow.Author.Rules.{rules}
 use Rattle.reporting.proofs.take_line.Goals as goal
 
 pub returns-in-Asking : goal.returns-in-Asking

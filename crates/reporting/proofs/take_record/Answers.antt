@@ -1,6 +1,5 @@
 -- `reporting::take_record` meets its contract. Assumes nothing.
 use Rattle.reporting.proofs.TellLaws.{record_tells}
-use borrow.Author.Rules.{rules}
 use Rattle.reporting.proofs.take_record.Goals as goal
 
 pub returns : goal.returns

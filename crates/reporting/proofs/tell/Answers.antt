@@ -1,5 +1,4 @@
 -- `reporting::tell` meets its contract. Assumes nothing.
-use borrow.Author.Rules.{rules}
 use Rattle.reporting.proofs.tell.Goals as goal
 
 pub returns-in-Check : goal.returns-in-Check

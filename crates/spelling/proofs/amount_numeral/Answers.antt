@@ -5,7 +5,6 @@ use Rattle.signs.proofs.Signs.{itself}
 use Rattle.signs.specs.Signed.{negative}
 use Rattle.spelling.proofs.SpellLaws.{amount_departure, amount_none, amount_sign, amount_value}
 use Rattle.spelling.specs.Spelled.{sign_digit}
-use borrow.Author.Rules.{rules}
 use lib.IntN.{nat_abs}
 use mathlib.Core.Bool.{Bool, cond}
 use mathlib.Core.Path.{◌∙◌, ◌≡◌, ap, sym}

@@ -1,5 +1,4 @@
 -- `spelling::departure_number` meets its contract. Assumes nothing.
-use borrow.Author.Rules.{rules}
 use Rattle.spelling.proofs.departure_number.Goals as goal
 
 pub returns-then-below : goal.returns-then-below

@@ -1,7 +1,5 @@
 -- `spelling::is_same` meets its contract. Assumes nothing.
 use Rattle.spelling.proofs.SpellLaws.{last_part, other_case, other_first, other_second, other_sign}
-use borrow.Author.Rules.{rules}
-use borrow.Author.Tests.{not-false, not-true}
 use Rattle.spelling.proofs.is_same.Goals as goal
 
 pub returns-then-p-q : goal.returns-then-p-q

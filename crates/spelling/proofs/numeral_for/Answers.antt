@@ -3,7 +3,6 @@ use Prim.Native.Nat.{ℕ}
 use Rattle.signs.proofs.Signs.{itself}
 use Rattle.spelling.proofs.SpellLaws.{with_fit}
 use Rattle.spelling.specs.Spelled.{amount_numeral, numeral_for}
-use borrow.Author.Rules.{rules}
 use lib.IntN.{ℤ}
 use mathlib.Core.Path.{◌∙◌, ◌≡◌, ap, sym}
 use Rattle.layout.specs.declared.Edition.{Edition}

@@ -3,7 +3,6 @@ use Rattle.signs.proofs.Signs.{itself}
 use Rattle.signs.specs.Signed.{negative}
 use Rattle.spelling.proofs.SpellLaws.{amount_parts, at_parts, place_parts}
 use Rattle.spelling.specs.Same.{parts_of}
-use borrow.Author.Rules.{rules}
 use lib.IntN.{nat_abs}
 use mathlib.Core.Path.{◌∙◌, ap}
 use Rattle.spelling.proofs.parts_of.Goals as goal

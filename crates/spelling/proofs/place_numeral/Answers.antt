@@ -1,7 +1,6 @@
 -- `spelling::place_numeral` meets its contract. Assumes nothing.
 use Rattle.numerals.specs.Numerals.{in_digits}
 use Rattle.spelling.proofs.SpellLaws.{place_digit, place_latitude, place_longitude, place_none}
-use borrow.Author.Rules.{rules}
 use mathlib.Core.Path.{◌∙◌, ap, sym}
 use Rattle.spelling.proofs.place_numeral.Goals as goal
 

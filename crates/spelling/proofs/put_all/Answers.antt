@@ -1,15 +1,13 @@
 -- `spelling::put_all` meets its contract: the loop stands at element e, and what is in front and what is left to spell are the whole row. Assumes nothing.
-use Prim.Native.Nat.{◌+◌, ◌-◌, ◌≤◌}
+use Prim.Native.Nat.{◌+◌, ◌≤◌}
 use Rattle.layout.specs.Page.{start_of, columns}
 use Rattle.reading.proofs.EntryLaws.{held}
 use Rattle.reading.proofs.ReadingLaws.{lead_is, Lead}
 use Rattle.reading.specs.Answers.{readings}
 use Rattle.reading.specs.Readings as Reads
 use Rattle.spelling.proofs.RowLaws.{row_end, row_turn, within}
-use Rattle.spelling.specs.Spelled.{given, numeral_for, row_for}
+use Rattle.spelling.specs.Spelled.{given, numeral_for}
 use borrow.Author.Rules.{rules}
-use lib.ListN.{length, take}
-use mathlib.Core.List.{◌++◌}
 use mathlib.Core.Path.{◌∙◌, ◌≡◌, ap, refl, sym}
 use native.Mathlib.Omega.{arith}
 use Rattle.spelling.proofs.put_all.Goals.{After-width_of-width, After-lead_of-k, After-numeral_for}

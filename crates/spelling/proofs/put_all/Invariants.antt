@@ -1,16 +1,10 @@
 use Prim.Native.Nat.{◌+◌, ◌-◌, ◌≤◌}
-use Rattle.layout.specs.Page.{start_of, columns}
-use Rattle.reading.proofs.EntryLaws.{held}
-use Rattle.reading.proofs.ReadingLaws.{lead_is, Lead}
+use Rattle.layout.specs.Page.{start_of}
 use Rattle.reading.specs.Answers.{readings}
-use Rattle.reading.specs.Readings as Reads
-use Rattle.spelling.proofs.RowLaws.{row_end, row_turn, within}
-use Rattle.spelling.specs.Spelled.{given, numeral_for, row_for}
-use borrow.Author.Rules.{rules}
+use Rattle.spelling.specs.Spelled.{row_for}
 use lib.ListN.{length, take}
 use mathlib.Core.List.{◌++◌}
-use mathlib.Core.Path.{◌∙◌, ◌≡◌, ap, refl, sym}
-use native.Mathlib.Omega.{arith}
+use mathlib.Core.Path.{◌≡◌}
 use Rattle.spelling.proofs.put_all.Given as goal
 
 abbrev pub invariant-loop-e : goal.invariant-loop-e

@@ -5,7 +5,6 @@ use Rattle.text.specs.Bytes.{number}
 use Rattle.calendar.specs.Calendar.{leaps, last_day}
 use Rattle.ties.specs.Ties as Ties
 use Rattle.ties.proofs.Days.{by_numbers}
-use borrow.Author.Rules.{rules}
 use Rattle.ties.proofs.day_tie.Goals as goal
 
 pub returns : goal.returns

@@ -3,7 +3,6 @@ use mathlib.Core.Bool.{◌&&◌}
 use Rattle.ties.specs.Ties.{tenths_fit, measured_fit, digit_tie}
 use Rattle.ties.specs.Ties as Ties
 use Rattle.ties.proofs.TieLaws.{of_two, of_three}
-use borrow.Author.Rules.{rules}
 use Rattle.ties.proofs.digit_tie.Goals as goal
 
 pub returns : goal.returns

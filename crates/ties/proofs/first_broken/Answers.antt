@@ -1,13 +1,10 @@
 -- `ties::first_broken` meets its contract: what is left to look at says the same as the whole. Assumes nothing.
-use Prim.Native.Nat.{ℕ, ◌+◌, ◌-◌}
+use Prim.Native.Nat.{ℕ}
 use Rattle.ties.specs.Ties.{tie, first_broken}
 use Rattle.ties.proofs.Looks.{looks}
 use lib.ListN.{length}
 use Rattle.text.proofs.First.{begin, end, off, on}
-use Rattle.text.specs.First.{first_from}
-use borrow.Author.Rules.{rules}
-use borrow.Author.Tests.{not-false, not-true}
-use mathlib.Core.Path.{◌∙◌, ◌≡◌, sym}
+use mathlib.Core.Path.{◌∙◌, sym}
 use Rattle.ties.proofs.first_broken.Goals as goal
 
 -- as many ties as there are

@@ -2,11 +2,8 @@ use Prim.Native.Nat.{ℕ, ◌+◌, ◌-◌}
 use Rattle.ties.specs.Ties.{tie, first_broken}
 use Rattle.ties.proofs.Looks.{looks}
 use lib.ListN.{length}
-use Rattle.text.proofs.First.{begin, end, off, on}
 use Rattle.text.specs.First.{first_from}
-use borrow.Author.Rules.{rules}
-use borrow.Author.Tests.{not-false, not-true}
-use mathlib.Core.Path.{◌∙◌, ◌≡◌, sym}
+use mathlib.Core.Path.{◌≡◌}
 use Rattle.ties.proofs.first_broken.Given as goal
 
 -- as many ties as there are

@@ -2,7 +2,6 @@
 use Prim.Native.Nat.{ℕ}
 use Rattle.ties.proofs.TieLaws.{no_tie, of_three, of_two}
 use Rattle.ties.specs.Ties.{octant_tie, place_tie, sign_tie, tie, wind_tie}
-use borrow.Author.Rules.{rules}
 use mathlib.Core.Path.{◌∙◌, ◌≡◌, ap, sym}
 use Rattle.ties.specs.Ties as Ties
 use Rattle.ties.proofs.holds.Goals.{Start}

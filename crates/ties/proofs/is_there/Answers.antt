@@ -1,5 +1,4 @@
 -- `ties::is_there` meets its contract. Assumes nothing.
-use borrow.Author.Rules.{rules}
 use mathlib.Core.Bool.{not}
 use mathlib.Core.Path.{ap}
 use Rattle.ties.proofs.is_there.Goals as goal

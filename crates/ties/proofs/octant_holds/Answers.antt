@@ -2,7 +2,6 @@
 use Rattle.ties.proofs.TieLaws.{octant_of_lem}
 use Rattle.ties.specs.Ties.{octant_tie}
 use Rattle.text.proofs.Ways.{or_goes_on, or_holds}
-use borrow.Author.Rules.{rules}
 use Rattle.ties.proofs.octant_holds.Goals as goal
 
 pub returns-then-is_blank : goal.returns-then-is_blank

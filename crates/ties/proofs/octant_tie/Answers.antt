@@ -2,7 +2,6 @@
 use Prim.Native.Nat.{ℕ}
 use Rattle.ties.specs.Ties.{octant_tie}
 use Rattle.layout.specs.declared.Edition.{Edition}
-use borrow.Author.Rules.{rules}
 use mathlib.Core.List.{List}
 use mathlib.Core.Path.{◌∙◌, ◌≡◌, ap, sym}
 use Rattle.ties.proofs.octant_tie.Goals as goal

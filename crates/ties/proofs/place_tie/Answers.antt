@@ -1,6 +1,5 @@
 -- `ties::place_tie` meets its contract. Assumes nothing.
 use Rattle.ties.proofs.TieLaws.{place_goes_on, place_stops}
-use borrow.Author.Rules.{rules}
 use Rattle.ties.proofs.place_tie.Goals as goal
 
 pub returns-then-same : goal.returns-then-same

@@ -1,6 +1,5 @@
 -- `ties::sign_tie` meets its contract. Assumes nothing.
 use Rattle.ties.proofs.TieLaws.{sign_goes_on, sign_stops}
-use borrow.Author.Rules.{rules}
 use Rattle.ties.proofs.sign_tie.Goals as goal
 
 pub returns-then-same : goal.returns-then-same

@@ -1,7 +1,6 @@
 -- `ties::tenths_fit` meets its contract. Assumes nothing.
 use Rattle.ties.specs.Ties.{last_digit}
 use Rattle.ties.proofs.TieLaws.{of_two}
-use borrow.Author.Rules.{rules}
 use Rattle.ties.proofs.tenths_fit.Goals as goal
 
 pub returns : goal.returns

@@ -1,7 +1,6 @@
 -- `ties::wind_tie` meets its contract. Assumes nothing.
 use Rattle.ties.specs.Ties.{wind_tie}
 use Rattle.text.proofs.Ways.{or_goes_on, or_holds}
-use borrow.Author.Rules.{rules}
 use Rattle.ties.proofs.wind_tie.Goals as goal
 
 pub returns-then-is_blank : goal.returns-then-is_blank

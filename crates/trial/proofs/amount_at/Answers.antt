@@ -1,5 +1,4 @@
 -- `trial::amount_at` meets its contract. Assumes nothing.
-use borrow.Author.Rules.{rules}
 use lib.IntN.{pos}
 use lib.ListN.{get_or-eq_default}
 use mathlib.Core.Path.{sym}

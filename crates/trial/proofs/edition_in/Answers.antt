@@ -1,7 +1,6 @@
 -- `trial::edition_in` meets its contract. Assumes nothing.
 use Rattle.trial.proofs.PackedLaws.{at_edition}
 use Rattle.trial.specs.Packed.{edition_in}
-use borrow.Author.Rules.{rules}
 use mathlib.Core.Path.{◌∙◌}
 use Rattle.trial.proofs.edition_in.Goals as goal
 

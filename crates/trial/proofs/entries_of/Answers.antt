@@ -1,9 +1,8 @@
 -- `trial::entries_of` meets its contract: the loop stands before element k + 1, and the entries below it are filled. Assumes nothing.
-use Prim.Native.Nat.{◌+◌, ◌-◌, ◌≤◌}
-use Rattle.reading.proofs.EntryLaws.{below, fill_end, fill_turn, entry}
-use Rattle.reading.specs.Answers.{entries_from, entries_of}
+use Prim.Native.Nat.{◌+◌, ◌-◌}
+use Rattle.reading.proofs.EntryLaws.{fill_end, fill_turn, entry}
+use Rattle.reading.specs.Answers.{entries_from}
 use Rattle.trial.specs.Packed.{reading_at}
-use borrow.Author.Rules.{rules}
 use mathlib.Core.Path.{◌∙◌, ◌≡◌, ap, refl, sym}
 use native.Mathlib.Omega.{arith}
 use Rattle.trial.proofs.entries_of.Goals as goal

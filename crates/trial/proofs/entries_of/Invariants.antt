@@ -1,10 +1,8 @@
 use Prim.Native.Nat.{◌+◌, ◌-◌, ◌≤◌}
-use Rattle.reading.proofs.EntryLaws.{below, fill_end, fill_turn, entry}
-use Rattle.reading.specs.Answers.{entries_from, entries_of}
+use Rattle.reading.proofs.EntryLaws.{below}
+use Rattle.reading.specs.Answers.{entries_of}
 use Rattle.trial.specs.Packed.{reading_at}
-use borrow.Author.Rules.{rules}
-use mathlib.Core.Path.{◌∙◌, ◌≡◌, ap, refl, sym}
-use native.Mathlib.Omega.{arith}
+use mathlib.Core.Path.{◌≡◌}
 use Rattle.trial.proofs.entries_of.Given as goal
 
 abbrev pub invariant-loop-k : goal.invariant-loop-k

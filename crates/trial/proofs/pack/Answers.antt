@@ -2,7 +2,6 @@
 use Rattle.signs.proofs.Signs.{itself}
 use Rattle.trial.proofs.PackedLaws.{at_packed}
 use Rattle.trial.specs.Packed.{packed}
-use borrow.Author.Rules.{rules}
 use Rattle.trial.proofs.pack.Goals as goal
 
 pub returns-in-Missing : goal.returns-in-Missing

@@ -1,9 +1,9 @@
 -- `trial::put_all` meets its contract: the loop stands before element k + 1, and the numbers of those below it are laid. Assumes nothing.
-use Prim.Native.Nat.{ℕ, ◌+◌, ◌-◌, ◌*◌, ◌<◌, ◌≤◌}
+use Prim.Native.Nat.{ℕ, ◌+◌, ◌*◌, ◌<◌}
 use Rattle.reading.proofs.EntryLaws.{held_next}
 use Rattle.signs.proofs.Signs.{itself}
 use Rattle.trial.proofs.PackedLaws.{amounts_long, four_long, front_all, lay_amounts, lay_numbers, numbers_long}
-use Rattle.trial.specs.Packed.{amounts_from, amounts_of, numbers_from, numbers_of, packed}
+use Rattle.trial.specs.Packed.{amounts_from, numbers_from, packed}
 use Rattle.reading.specs.Answers.{read_as_of}
 use Rattle.trial.specs.declared.Packed.{Packed}
 use borrow.Author.Rules.{rules}

@@ -1,16 +1,8 @@
-use Prim.Native.Nat.{ℕ, ◌+◌, ◌-◌, ◌*◌, ◌<◌, ◌≤◌}
-use Rattle.reading.proofs.EntryLaws.{held_next}
-use Rattle.signs.proofs.Signs.{itself}
-use Rattle.trial.proofs.PackedLaws.{amounts_long, four_long, front_all, lay_amounts, lay_numbers, numbers_long}
-use Rattle.trial.specs.Packed.{amounts_from, amounts_of, numbers_from, numbers_of, packed}
-use Rattle.reading.specs.Answers.{read_as_of}
-use Rattle.trial.specs.declared.Packed.{Packed}
-use borrow.Author.Rules.{rules}
-use lib.Dec.{lit<}
-use lib.ListN.{length, take, drop, length-set}
+use Prim.Native.Nat.{◌-◌, ◌*◌, ◌≤◌}
+use Rattle.trial.specs.Packed.{amounts_of, numbers_of}
+use lib.ListN.{length, take, drop}
 use mathlib.Core.List.{◌++◌}
-use mathlib.Core.Path.{◌∙◌, ◌≡◌, ap, refl}
-use native.Mathlib.Omega.{arith}
+use mathlib.Core.Path.{◌≡◌}
 use Rattle.trial.proofs.put_all.Given as goal
 
 abbrev pub invariant-loop-k : goal.invariant-loop-k

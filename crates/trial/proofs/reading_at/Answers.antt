@@ -1,7 +1,6 @@
 -- `trial::reading_at` meets its contract. Assumes nothing.
 use Rattle.signs.proofs.Signs.{itself}
 use Rattle.trial.proofs.PackedLaws.{read_at}
-use borrow.Author.Rules.{rules}
 use mathlib.Core.Path.{◌∙◌}
 use Rattle.trial.proofs.reading_at.Goals as goal
 

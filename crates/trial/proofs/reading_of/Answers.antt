@@ -1,7 +1,6 @@
 -- `trial::reading_of` meets its contract. Assumes nothing.
 use Rattle.signs.proofs.Signs.{itself}
 use Rattle.trial.specs.Packed.{reading_from}
-use borrow.Author.Rules.{rules}
 use borrow.Author.Tests.{ne_eqb}
 use Rattle.trial.proofs.reading_of.Goals as goal
 

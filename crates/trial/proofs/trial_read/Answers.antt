@@ -5,7 +5,6 @@ use Rattle.reading.specs.Answers.{read_as_of, read_of}
 use Rattle.reading.specs.declared.Readings.{Readings}
 use Rattle.trial.proofs.PackedLaws.{amounts_long, laid, numbers_long, room_there, unlaid}
 use Rattle.trial.specs.Packed.{amounts_of, edition_in, numbers_of}
-use borrow.Author.Rules.{rules}
 use lib.ListN.{drop}
 use mathlib.Core.List.{◌++◌}
 use mathlib.Core.Path.{◌∙◌, ap, sym}

@@ -1,6 +1,5 @@
 -- `trial::trial_show` meets its contract. Assumes nothing.
 use Rattle.trial.proofs.PackedLaws.{shown, not_shown}
-use borrow.Author.Rules.{rules}
 use lib.ListN.{length}
 use mathlib.Core.Path.{ap}
 use Rattle.trial.proofs.trial_show.Goals as goal

@@ -4,7 +4,6 @@ use Rattle.reading.specs.declared.Entry.{Entry}
 use Rattle.refusals.specs.Verdicts.{verdict_number, verdict_place}
 use Rattle.refusals.specs.Lent.{Call, Quiet, verdict_in, left_by}
 use Rattle.writing.specs.Written.{written}
-use borrow.Author.Rules.{rules}
 use lib.ListN.{length}
 use mathlib.Core.List.{List}
 use mathlib.Core.Path.{◌∙◌, ap}

@@ -1,15 +1,12 @@
 -- `writing::first_unwritten` meets its contract: the loop stands at element e, and what is left to look at says the same as the whole. Assumes nothing.
-use Prim.Native.Nat.{◌+◌, ◌-◌, ◌≤◌}
 use Rattle.checking.proofs.Demand2Acceptance.{accepted_exactly}
 use Rattle.checking.proofs.LegalLaws.{all_legal}
 use Rattle.layout.specs.Editions.{length_of}
 use Rattle.reading.proofs.EntryLaws.{held, read_back}
 use Rattle.reading.specs.Answers.{readings}
 use Rattle.text.proofs.First.{begin, end, off, on}
-use Rattle.text.specs.First.{first_from, first_of}
 use Rattle.writing.specs.Written.{writes}
 use borrow.Author.Rules.{rules}
-use borrow.Author.Tests.{not-false, not-true}
 use mathlib.Core.Path.{◌∙◌, ◌≡◌, ap, sym}
 use native.Mathlib.Omega.{arith}
 use Rattle.writing.proofs.first_unwritten.Goals.{After-is_written}

@@ -3,7 +3,6 @@ use mathlib.Core.Path.{sym, ap, ◌∙◌}
 use mathlib.Core.Bool.{false≢true}
 use Rattle.checking.specs.declared.Answer.TheVariants.{Accepted}
 use Rattle.layout.proofs.RecordLaws.{same_number}
-use borrow.Author.Rules.{rules}
 use borrow.Author.Tests.{eqb-true}
 use Rattle.writing.proofs.is_accepted.Goals as goal
 

@@ -1,6 +1,5 @@
 -- `writing::is_legal` meets its contract. Assumes nothing.
 use mathlib.Core.Path.{sym}
-use borrow.Author.Rules.{rules}
 use Rattle.writing.proofs.is_legal.Goals as goal
 
 pub returns-then-is_known : goal.returns-then-is_known

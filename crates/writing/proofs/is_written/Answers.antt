@@ -1,6 +1,5 @@
 -- `writing::is_written` meets its contract. Assumes nothing.
 use Rattle.text.proofs.Ways.{and_goes_on, and_stops}
-use borrow.Author.Rules.{rules}
 use Rattle.writing.proofs.is_written.Goals as goal
 
 pub returns-then-is_legal : goal.returns-then-is_legal

@@ -4,7 +4,6 @@ use Rattle.refusals.proofs.LentLaws.{refuses, same_call}
 use Rattle.reading.specs.Answers.{readings}
 use Rattle.writing.proofs.WriteLaws.{at_name}
 use Rattle.writing.specs.Written.{written_as}
-use borrow.Author.Rules.{rules}
 use mathlib.Core.Path.{◌∙◌, ap, refl, sym}
 use Rattle.layout.specs.declared.Named.{Named}
 use Rattle.writing.proofs.write.Goals as goal

@@ -2,7 +2,6 @@
 use Rattle.refusals.specs.Lent.{verdict_of}
 use Rattle.refusals.proofs.LentLaws.{refuses, cramped, writes}
 use Rattle.writing.proofs.WriteLaws.{breaks, filled_up, fitting, is_record, not_fitting, not_writable, record_length, spelled, within_row, writable}
-use borrow.Author.Rules.{rules}
 use mathlib.Core.Path.{◌∙◌, refl, sym}
 use native.Mathlib.Omega.{arith}
 use Rattle.writing.proofs.write_in.Goals as goal

@@ -1,5 +1,4 @@
 -- `blanking::names::losses_of` meets its contract. Assumes nothing.
-use borrow.Author.Rules.{rules}
 use native.Mathlib.Omega.{arith}
 use Rattle.layout.proofs.RecordLaws.{shortest}
 use Rattle.blanking.specs.LostBytes.{codes_lost, country_lost, version_lost, flags_lost}

@@ -1,5 +1,4 @@
 -- `blanking::names::moved` meets its contract. Assumes nothing.
-use borrow.Author.Rules.{rules}
 use native.Mathlib.Omega.{arith}
 use lib.Pow.{shl_exact}
 use Rattle.blanking.proofs.names.moved.Goals as goal

@@ -1,8 +1,7 @@
 -- `blanking::names::name_eight` meets its contract. Assumes nothing.
 use mathlib.Core.Path.{◌≡◌, refl, ap, ◌∙◌}
-use Prim.Native.Nat.{◌+◌, ◌-◌, ◌≤◌}
+use Prim.Native.Nat.{◌+◌}
 use native.Mathlib.Omega.{arith}
-use borrow.Author.Rules.{rules}
 use Rattle.text.specs.Bytes.{between}
 use Rattle.element_sets.specs.ElementSets.{bits}
 use Rattle.layout.specs.Page.{first_byte}

@@ -1,12 +1,8 @@
-use mathlib.Core.Path.{◌≡◌, refl, ap, ◌∙◌}
-use Prim.Native.Nat.{◌+◌, ◌-◌, ◌≤◌}
-use native.Mathlib.Omega.{arith}
-use borrow.Author.Rules.{rules}
+use mathlib.Core.Path.{◌≡◌}
+use Prim.Native.Nat.{◌-◌, ◌≤◌}
 use Rattle.text.specs.Bytes.{between}
 use Rattle.element_sets.specs.ElementSets.{bits}
 use Rattle.layout.specs.Page.{first_byte}
-use Rattle.layout.proofs.Columns.{start_next, start_rises, some_column}
-use Rattle.blanking.proofs.NameLaws.{word_on, mask}
 use Rattle.blanking.proofs.names.name_eight.Given as goal
 
 abbrev pub invariant-loop-k : goal.invariant-loop-k

@@ -1,5 +1,4 @@
 -- `blanking::names::name_filled` meets its contract. Assumes nothing.
-use borrow.Author.Rules.{rules}
 use native.Mathlib.Omega.{arith}
 use lib.Dec.{lit≤}
 use Rattle.layout.proofs.Columns.{start_below}

@@ -1,8 +1,6 @@
 -- `blanking::names::name_last` meets its contract. Assumes nothing.
-use borrow.Author.Rules.{rules}
 use mathlib.Core.Path.{sym, ◌∙◌}
 use native.Mathlib.Omega.{arith}
-use borrow.Author.Rules.{rules}
 use Rattle.blanking.proofs.RowLaws.{first_length, other_length}
 use Rattle.blanking.proofs.LossLaws.{last_none, in_none, in_some}
 use Rattle.blanking.proofs.names.name_last.Goals as goal

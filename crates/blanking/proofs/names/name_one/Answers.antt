@@ -1,5 +1,4 @@
 -- `blanking::names::name_one` meets its contract. Assumes nothing.
-use borrow.Author.Rules.{rules}
 use mathlib.Core.Path.{ap}
 use Rattle.text.specs.Bytes.{between}
 use Rattle.blanking.proofs.names.name_one.Goals as goal

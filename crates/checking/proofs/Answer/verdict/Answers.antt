@@ -1,5 +1,4 @@
 -- `checking::Answer::verdict` meets its contract. Assumes nothing.
-use borrow.Author.Rules.{rules}
 use mathlib.Core.Path.{sym, ap}
 use Rattle.checking.specs.Check.{answer_verdict}
 use Rattle.checking.proofs.Answer.verdict.Goals as goal

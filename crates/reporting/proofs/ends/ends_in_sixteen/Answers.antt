@@ -1,9 +1,6 @@
 -- `reporting::ends::ends_in_sixteen` meets its contract: where nothing is found among the bytes so far, no line ends among them. Assumes nothing.
-use Prim.Native.Nat.{◌+◌, ◌-◌, ◌≤◌}
 use Rattle.reporting.proofs.EndLaws.{end_block, end_start, end_turn}
-use Rattle.reporting.specs.Lines.{next_end}
 use borrow.Author.Rules.{rules}
-use mathlib.Core.Path.{◌≡◌}
 use native.Mathlib.Omega.{arith}
 use Rattle.reporting.proofs.ends.ends_in_sixteen.Goals as goal
 

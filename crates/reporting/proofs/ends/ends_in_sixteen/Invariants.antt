@@ -1,9 +1,6 @@
 use Prim.Native.Nat.{◌+◌, ◌-◌, ◌≤◌}
-use Rattle.reporting.proofs.EndLaws.{end_block, end_start, end_turn}
 use Rattle.reporting.specs.Lines.{next_end}
-use borrow.Author.Rules.{rules}
 use mathlib.Core.Path.{◌≡◌}
-use native.Mathlib.Omega.{arith}
 use Rattle.reporting.proofs.ends.ends_in_sixteen.Given as goal
 
 abbrev pub invariant-loop-k : goal.invariant-loop-k

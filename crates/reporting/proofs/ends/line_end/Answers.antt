@@ -1,10 +1,7 @@
 -- `reporting::ends::line_end` meets its contract: the line ends where it ends from the bytes on that are not passed over yet. Assumes nothing.
-use Prim.Native.Nat.{◌-◌, ◌≤◌}
 use Rattle.reporting.proofs.EndLaws.{end_found}
-use Rattle.reporting.specs.Lines.{next_end}
 use borrow.Author.Rules.{rules}
-use lib.ListN.{length}
-use mathlib.Core.Path.{◌∙◌, ◌≡◌, refl, sym}
+use mathlib.Core.Path.{◌∙◌, refl, sym}
 use native.Mathlib.Omega.{arith}
 use Rattle.reporting.proofs.ends.line_end.Goals as goal
 

@@ -1,10 +1,7 @@
 use Prim.Native.Nat.{◌-◌, ◌≤◌}
-use Rattle.reporting.proofs.EndLaws.{end_found}
 use Rattle.reporting.specs.Lines.{next_end}
-use borrow.Author.Rules.{rules}
 use lib.ListN.{length}
-use mathlib.Core.Path.{◌∙◌, ◌≡◌, refl, sym}
-use native.Mathlib.Omega.{arith}
+use mathlib.Core.Path.{◌≡◌}
 use Rattle.reporting.proofs.ends.line_end.Given as goal
 
 abbrev pub invariant-loop-at : goal.invariant-loop-at

@@ -14,12 +14,6 @@ shared-requires c = omega (arith, c.requires.0, shortest c.args.edition)
 pub alike-requires : goal.alike-requires
 alike-requires c = omega (arith, c.requires.0, shortest c.args.edition)
 
-pub returns-then-shared-alike-ne0 : goal.returns-then-shared-alike-ne0
-returns-then-shared-alike-ne0 c = λ e. absurd (true≢false (sym e))
-
-pub returns-then-own-ne0 : goal.returns-then-own-ne0
-returns-then-own-ne0 c = λ e. absurd (true≢false (sym e))
-
 pub returns : goal.returns
 returns c =
     λ e.
@@ -27,4 +21,4 @@ returns c =
     let s = c.shared in
     let a = c.alike in
     surely_sound _ _ c.requires.0 c.requires.1 (s.ensures (or_left s.result a.result none)) (a.ensures (or_right s.result a.result none))
-    (c.own.ensures c.if-own-ne0.false) (c.rest.ensures (eqb-true _ _ e))
+    (c.own.ensures (omega arith)) (c.rest.ensures (eqb-true _ _ e))

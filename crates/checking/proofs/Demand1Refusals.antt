@@ -1,5 +1,5 @@
 -- Demand 1: bad input gets the refusal that document 01 fixes, in its order, with its place. Assumes nothing.
---     refused-exactly   check answers refusal n with place p exactly when rule n fails at p, every earlier rule holds, and the same rule holds at every
+--     refused_exactly   check answers refusal n with place p exactly when rule n fails at p, every earlier rule holds, and the same rule holds at every
 --                       lower place
 --     fits, only_one    what check answers fits the record; two answers that fit are equal
 use mathlib.Core.Path.{◌≡◌, sym, ap, ◌∙◌}

@@ -1,5 +1,5 @@
 -- Demand 2: the call sign that is shown runs from column 72 to its last non-blank. Assumes nothing.
---     shown-to-last   of an accepted record: what is shown and blanks after it are the columns 72 to 78, and what is shown does not end in a blank
+--     shown_to_last   of an accepted record: what is shown and blanks after it are the columns 72 to 78, and what is shown does not end in a blank
 --     hidden          of a refused record nothing is shown
 use mathlib.Core.Path.{◌≡◌, refl, sym, ap, ◌∙◌}
 use mathlib.Core.Bool.{Bool, true, false, cond, ◌&&◌, and-true}

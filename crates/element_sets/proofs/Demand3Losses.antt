@@ -1,13 +1,13 @@
 -- Demand 3: the two words are the set of the elements that are lost, whatever test says which these are. Assumes nothing.
---     listed-exactly, not_listed   the list has exactly the elements from 1 to 101 that are lost
+--     listed_exactly, not_listed   the list has exactly the elements from 1 to 101 that are lost
 --     rising                       in rising order, so each once
---     test-is-membership           the test of a number's bit says whether the list has that number, whatever the number
---     has-exactly                  and of an element, whether it is lost
---     ones-are-length              the ones of the two words are as many as the list has elements
---     lowest-is-head               the zeros below the lowest one give the first of the list, 0 where it is empty
---     same-losses, same-list       elements that are lost alike give the same set and the same list
---     empty-set, empty-list        where no element is lost, both are empty
---     none-lost                    where the set is empty, none is lost
+--     test_is_membership           the test of a number's bit says whether the list has that number, whatever the number
+--     has_exactly                  and of an element, whether it is lost
+--     ones_are_length              the ones of the two words are as many as the list has elements
+--     lowest_is_head               the zeros below the lowest one give the first of the list, 0 where it is empty
+--     same_losses, same_list       elements that are lost alike give the same set and the same list
+--     empty_set, empty_list        where no element is lost, both are empty
+--     none_lost                    where the set is empty, none is lost
 use mathlib.Core.Path.{◌≡◌, refl, sym, ap, ap₂, ◌∙◌}
 use mathlib.Core.Logic.{◌⊎◌, inl, inr, ⊎_elim}
 use mathlib.Core.List.{List, [], ◌∷◌, ◌++◌}

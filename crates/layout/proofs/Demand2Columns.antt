@@ -1,7 +1,7 @@
 -- Demand 2: the columns of an edition. Assumes nothing.
---     widths-fill    the widths fill each edition exactly: they sum to 131 over elements 1 to 85 and to 159 over 1 to 101
+--     widths_fill    the widths fill each edition exactly: they sum to 131 over elements 1 to 85 and to 159 over 1 to 101
 --     one_by_one     each element starts where the one before it ends, the first in the first column
---     column-N       the columns that document 01 speaks of are where the widths put them: 1 is element 1, 12 element 6, 72 the first of element 42, 111 element 65
+--     column_N       the columns that document 01 speaks of are where the widths put them: 1 is element 1, 12 element 6, 72 the first of element 42, 111 element 65
 --     printed        the columns of some elements, as the published page prints them
 use mathlib.Core.Path.{◌≡◌, refl}
 use mathlib.Core.List.{[], ◌∷◌, map}

@@ -1,9 +1,9 @@
 -- Demand 2: a report is proved as a run, and not only of one record, for every job at once. Assumes nothing.
 --     in_pieces       the state after some bytes, and what is said of them, is that of their parts, one after the other
---     whole-report    what is said of a whole input and at its end is the report of it
---     whole-refused   and the end says that something was refused exactly where the report says so of a line
---     any-pieces      so it is, in whatever pieces the input is fed
---     fed-report      what calls of feed and a call of finish write, one after the other, is the report of all that they took, and what finish answers is
+--     whole_report    what is said of a whole input and at its end is the report of it
+--     whole_refused   and the end says that something was refused exactly where the report says so of a line
+--     any_pieces      so it is, in whatever pieces the input is fed
+--     fed_report      what calls of feed and a call of finish write, one after the other, is the report of all that they took, and what finish answers is
 --                     whether anything was refused
 use mathlib.Core.Path.{◌≡◌, refl, sym, ap, ap₂, ◌∙◌}
 use mathlib.Core.Bool.{Bool, true, false, cond, ◌||◌}

@@ -144,8 +144,7 @@ packed_back (At p) = refl
 pub shown : (sign text before after : List ℕ) → text ≡ sign → length text ≤ length before → after ≡ text ++ drop (length text) before →
     after ≡ shown_in sign before
 shown sign text before after e h f =
-    f ∙
-    rw (← e, le-leb (length text) (length before) h)
+    f ∙ rw (← e, le-leb (length text) (length before) h)
 
 pub not_shown : (sign text before : List ℕ) → text ≡ sign → length before < length text → before ≡ shown_in sign before
 not_shown sign text before e h = rw (← e, lt-leb (length text) (length before) h)

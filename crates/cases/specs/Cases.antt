@@ -13,7 +13,7 @@ use Rattle.checking.specs.Check.{checked, answer_verdict}
 use Rattle.reading.specs.declared.Reading.{Reading}
 use Rattle.reading.specs.declared.Reading.TheVariants.{Missing}
 use Rattle.reading.specs.declared.Readings.{Readings}
-use Rattle.reading.specs.Answers.{read_of, read_as_of}
+use Rattle.reading.specs.Answers.{read_of, read_as}
 use Rattle.writing.specs.Written.{written}
 use Rattle.recasting.specs.declared.Outcome.{Outcome}
 use Rattle.recasting.specs.Recast.{blanks, recast_of, outcome_in}
@@ -70,7 +70,7 @@ abbrev pub of_answer : Answer → Result
 of_answer a = result (verdict_number (answer_verdict a)) (verdict_place (answer_verdict a)) Missing [] []
 
 abbrev pub of_readings : Readings → ℕ → Result
-of_readings all e = result (verdict_number (answer_verdict all.answer)) (verdict_place (answer_verdict all.answer)) (read_as_of all.entries e) [] []
+of_readings all e = result (verdict_number (answer_verdict all.answer)) (verdict_place (answer_verdict all.answer)) (read_as all.entries e) [] []
 
 abbrev pub of_outcome : Outcome → List ℕ → Result
 of_outcome o left = result (verdict_number o.verdict) (verdict_place o.verdict) Missing (list_of (has_element o.losses)) left

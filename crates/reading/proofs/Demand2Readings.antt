@@ -20,19 +20,19 @@ use Rattle.checking.proofs.Demand2Acceptance.{accepted_exactly}
 use Rattle.reading.specs.declared.Reading.{Reading}
 use Rattle.reading.specs.declared.Reading.TheVariants.{Missing}
 use Rattle.reading.specs.Readings.{plain, temperature, departure, place_of, item_of, reading_of}
-use Rattle.reading.specs.Answers.{read_after, read_as_of, read_of}
-use Rattle.reading.proofs.EntryLaws.{read_as}
+use Rattle.reading.specs.Answers.{read_after, read_as, read_of}
+use Rattle.reading.proofs.EntryLaws.{read_as_lem}
 use Rattle.reading.proofs.ReadingLaws.{among_below, among_above, lacking}
 
 -- what element e of the record reads as
 abbrev pub reads : List ℕ → ℕ → Reading
-reads xs e = read_as_of (read_of xs).entries e
+reads xs e = read_as (read_of xs).entries e
 
 -- an accepted record
 module _ (ed : Edition) (xs : List ℕ) (accepted : checked xs ≡ Accepted ed) where
   pub reads_each : (e : ℕ) → 1 ≤ e → e ≤ 101 → reads xs e ≡ reading_of ed xs e
   unfolding read_after
-  reads_each e l h = rw accepted (read_as (reading_of ed xs) e l h)
+  reads_each e l h = rw accepted (read_as_lem (reading_of ed xs) e l h)
 
   -- 6, 7, 8: the one place, from column 12, latitude and longitude
   pub reads_place : (e : ℕ) → among 6 7 8 8 e ≡ true → reads xs e ≡ place_of ed (text_of 6 xs) (text_of 7 xs) (text_of 8 xs)
@@ -74,4 +74,4 @@ module _ (ed : Edition) (xs : List ℕ) (accepted : checked xs ≡ Accepted ed) 
 -- a refused record
 pub reads_refused : (xs : List ℕ) (r : Refusal) → checked xs ≡ Refused r → (e : ℕ) → 1 ≤ e → e ≤ 101 → reads xs e ≡ Missing
 unfolding read_after
-reads_refused xs r refused e l h = rw refused (read_as (λ i. Missing) e l h)
+reads_refused xs r refused e l h = rw refused (read_as_lem (λ i. Missing) e l h)

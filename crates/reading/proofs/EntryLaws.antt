@@ -16,7 +16,7 @@ use Rattle.reading.specs.declared.Reading.{Reading}
 use Rattle.reading.specs.declared.Reading.TheVariants.{Missing}
 use Rattle.reading.specs.declared.Readings.{Readings}
 use Rattle.reading.specs.Readings.{reading_of}
-use Rattle.reading.specs.Answers.{entries_from, entries_of, read_after, read_as_of}
+use Rattle.reading.specs.Answers.{entries_from, entries_of, read_after, read_as}
 
 abbrev pub entry : Reading → Entry
 entry r = record { reading = r }
@@ -40,14 +40,14 @@ entries_long g a zero = refl
 entries_long g a (suc n) = ap suc (entries_long g (a + 1) n)
 
 -- what an element reads as: what its entry holds
-pub held : (es : List Entry) (e : ℕ) → (get_or es (e - 1) (entry Missing)).reading ≡ read_as_of es e
+pub held : (es : List Entry) (e : ℕ) → (get_or es (e - 1) (entry Missing)).reading ≡ read_as es e
 held es e = sym (get_or-map (λ (x : Entry). x.reading) es (e - 1) (entry Missing))
 
-pub held_next : (es : List Entry) (k : ℕ) → (get_or es k (entry Missing)).reading ≡ read_as_of es (1 + k)
+pub held_next : (es : List Entry) (k : ℕ) → (get_or es k (entry Missing)).reading ≡ read_as es (1 + k)
 held_next es k = let back : 1 + k - 1 ≡ k = omega arith in ap (λ (j : ℕ). (get_or es j (entry Missing)).reading) (sym back) ∙ held es (1 + k)
 
-pub read_as : (g : ℕ → Reading) (e : ℕ) → 1 ≤ e → e ≤ 101 → read_as_of (entries_of g) e ≡ g e
-read_as g e l h =
+pub read_as_lem : (g : ℕ → Reading) (e : ℕ) → 1 ≤ e → e ≤ 101 → read_as (entries_of g) e ≡ g e
+read_as_lem g e l h =
     let here : 1 + (e - 1) ≡ e = omega arith in
     sym (held (entries_of g) e) ∙ ap (λ (x : Entry). x.reading) (entry_at g 1 101 (e - 1) (entry Missing) (omega arith)) ∙ ap g here
 
@@ -118,4 +118,4 @@ as_known xs es g h = rw g h
 -- what the entries of an accepted record hold is what the elements read as
 pub read_back : (ed : Edition) (xs : List ℕ) (all : Readings) → all ≡ read_after (Accepted ed) xs → (e : ℕ) → 1 ≤ e → e ≤ 101 → (get_or all.entries (e - 1) (entry Missing)).reading ≡ reading_of ed xs e
 unfolding read_after
-read_back ed xs all h e l m = held all.entries e ∙ rw h (read_as (reading_of ed xs) e l m)
+read_back ed xs all h e l m = held all.entries e ∙ rw h (read_as_lem (reading_of ed xs) e l m)

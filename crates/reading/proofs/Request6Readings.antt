@@ -12,7 +12,7 @@ use Rattle.checking.specs.Check.{checked}
 use Rattle.checking.proofs.Demand1Refusals as Checks
 use Rattle.reading.specs.declared.Reading.TheVariants.{Missing}
 use Rattle.reading.specs.declared.Readings.{Readings}
-use Rattle.reading.specs.Answers.{read_after, read_as_of, read_of}
+use Rattle.reading.specs.Answers.{read_after, read_as, read_of}
 use Rattle.reading.specs.Fits.{Fits}
 use Rattle.reading.proofs.EntryLaws.{entries_long, entry, held_next, holding}
 use Rattle.reading.proofs.Demand2Readings.{reads_each, reads_refused}
@@ -52,7 +52,7 @@ only_one xs a b f g = same_answer a.answer refl
     verdict = Checks.only_one xs a.answer b.answer f.checks g.checks
 
     -- entries that read the same are the same
-    row : ((e : ℕ) → 1 ≤ e → e ≤ 101 → read_as_of a.entries e ≡ read_as_of b.entries e) → a ≡ b
+    row : ((e : ℕ) → 1 ≤ e → e ≤ 101 → read_as a.entries e ≡ read_as b.entries e) → a ≡ b
     row h =
         let es : a.entries ≡ b.entries = ext_get_or (entry Missing) a.entries b.entries (f.full ∙ sym g.full)
         (λ k l. ap entry (held_next a.entries k ∙ h (1 + k) (omega arith) (omega (arith, f.full)) ∙ sym (held_next b.entries k))) in

@@ -30,5 +30,5 @@ read_of xs = read_after (checked xs) xs
 abbrev pub readings : List Entry → List Reading
 readings entries = map (λ (entry : Entry). entry.reading) entries
 
-abbrev pub read_as_of : List Entry → ℕ → Reading
-read_as_of entries e = get_or (readings entries) (e - 1) Missing
+abbrev pub read_as : List Entry → ℕ → Reading
+read_as entries e = get_or (readings entries) (e - 1) Missing

@@ -8,7 +8,7 @@ use Rattle.checking.specs.Acceptable as Checking
 use Rattle.reading.specs.declared.Reading.TheVariants.{Missing}
 use Rattle.reading.specs.declared.Readings.{Readings}
 use Rattle.reading.specs.Readings.{reading_of}
-use Rattle.reading.specs.Answers.{read_as_of}
+use Rattle.reading.specs.Answers.{read_as}
 
 pub record Fits (xs : List ℕ) (all : Readings) : Type 0 where
   -- the record is one of that edition, or that refusal's rule is the first to fail, at that place
@@ -16,6 +16,6 @@ pub record Fits (xs : List ℕ) (all : Readings) : Type 0 where
   -- there are always 101 entries
   pub full : length all.entries ≡ last_element
   -- each element of an accepted record reads as its columns say
-  pub reads : (ed : Edition) → all.answer ≡ Accepted ed → (e : ℕ) → 1 ≤ e → e ≤ last_element → read_as_of all.entries e ≡ reading_of ed xs e
+  pub reads : (ed : Edition) → all.answer ≡ Accepted ed → (e : ℕ) → 1 ≤ e → e ≤ last_element → read_as all.entries e ≡ reading_of ed xs e
   -- a refused record has no readings
-  pub none : (r : Refusal) → all.answer ≡ Refused r → (e : ℕ) → 1 ≤ e → e ≤ last_element → read_as_of all.entries e ≡ Missing
+  pub none : (r : Refusal) → all.answer ≡ Refused r → (e : ℕ) → 1 ≤ e → e ≤ last_element → read_as all.entries e ≡ Missing

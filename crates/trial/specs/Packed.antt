@@ -9,7 +9,7 @@ use Rattle.reading.specs.declared.Kind.{Kind}
 use Rattle.reading.specs.declared.Kind.TheVariants.{Measured, Computed, IcedMeasured, IcedComputed}
 use Rattle.reading.specs.declared.Reading.{Reading}
 use Rattle.reading.specs.declared.Reading.TheVariants.{Missing, Code, Text, Amount, At}
-use Rattle.reading.specs.Answers.{entries_of, read_as_of}
+use Rattle.reading.specs.Answers.{entries_of, read_as}
 use Rattle.spelling.specs.Same.{kind_number}
 use Rattle.trial.specs.declared.Packed.{Packed}
 
@@ -52,10 +52,10 @@ amounts_from reads e zero = []
 amounts_from reads e (suc n) = (packed (reads e)).amount ∷ amounts_from reads (e + 1) n
 
 abbrev pub numbers_of : List Entry → List ℕ
-numbers_of entries = numbers_from (read_as_of entries) 1 last_element
+numbers_of entries = numbers_from (read_as entries) 1 last_element
 
 abbrev pub amounts_of : List Entry → List ℤ
-amounts_of entries = amounts_from (read_as_of entries) 1 last_element
+amounts_of entries = amounts_from (read_as entries) 1 last_element
 
 -- the number of an accepted record's edition, 0 where it is refused
 unfoldable pub edition_in : Answer → ℕ

@@ -18,7 +18,7 @@ use Rattle.checking.specs.Acceptable.{Acceptable}
 use Rattle.checking.proofs.LegalLaws.{legal_record}
 use Rattle.checking.proofs.Demand2Acceptance.{accepted_exactly}
 use Rattle.reading.specs.declared.Reading.{Reading}
-use Rattle.reading.specs.Answers.{read_as_of, read_of}
+use Rattle.reading.specs.Answers.{read_as, read_of}
 use Rattle.reading.proofs.Demand2Readings.{reads_each}
 use Rattle.spelling.specs.Spelled.{given, record_of}
 use Rattle.spelling.proofs.RecordLaws.{record_long}
@@ -38,7 +38,7 @@ module _ (ed : Edition) (rs : List Reading) {a : Quiet} {bytes : List ℕ} (done
   pub written_is_accepted : checked bytes ≡ Accepted ed
   written_is_accepted = let w = (done_means ed rs done).0 in rw is_record ((accepted_exactly (record_of ed rs) ed).1 (acceptable ed rs w.0 w.1))
 
-  pub written_reads_as_given : (e : ℕ) → 1 ≤ e → e ≤ 101 → read_as_of (read_of bytes).entries e ≡ given rs e
+  pub written_reads_as_given : (e : ℕ) → 1 ≤ e → e ≤ 101 → read_as (read_of bytes).entries e ≡ given rs e
   written_reads_as_given e h l = reads_each ed bytes written_is_accepted e h l ∙ rw is_record (as_given ed rs (done_means ed rs done).0.0 e h l)
 
   pub written_long : length bytes ≡ length_of ed
@@ -55,7 +55,7 @@ pub record Success (rs : List Reading) (edition : ℕ) (before : List ℕ) : Typ
   pub held : Edition
   pub names : asked edition ≡ Known held
   pub accepted : checked (front held rs edition before) ≡ Accepted held
-  pub reads : (e : ℕ) → 1 ≤ e → e ≤ 101 → read_as_of (read_of (front held rs edition before)).entries e ≡ given rs e
+  pub reads : (e : ℕ) → 1 ≤ e → e ≤ 101 → read_as (read_of (front held rs edition before)).entries e ≡ given rs e
   pub rest : drop (length_of held) (after rs edition before) ≡ drop (length_of held) before
 
 module _ (ed : Edition) (rs : List Reading) (edition : ℕ) (before : List ℕ) (names : asked edition ≡ Known ed) (w : Wrote (written_in ed rs) (length before)) where
@@ -71,7 +71,7 @@ module _ (ed : Edition) (rs : List Reading) (edition : ℕ) (before : List ℕ) 
     held = ed;
     names = names;
     accepted = ap checked is_front ∙ written_is_accepted ed rs w.is;
-    reads = λ e l h. ap (λ (xs : List ℕ). read_as_of (read_of xs).entries e) is_front ∙ written_reads_as_given ed rs w.is e l h;
+    reads = λ e l h. ap (λ (xs : List ℕ). read_as (read_of xs).entries e) is_front ∙ written_reads_as_given ed rs w.is e l h;
     rest =
         ap (drop (length_of ed)) filled ∙ drop_at w.bytes (drop (length w.bytes) before) (length_of ed) (written_long ed rs w.is) ∙
         ap (λ (n : ℕ). drop n before) (written_long ed rs w.is);

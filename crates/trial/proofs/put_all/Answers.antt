@@ -4,7 +4,7 @@ use Rattle.reading.proofs.EntryLaws.{held_next}
 use Rattle.signs.proofs.Signs.{itself}
 use Rattle.trial.proofs.PackedLaws.{amounts_long, four_long, front_all, lay_amounts, lay_numbers, numbers_long}
 use Rattle.trial.specs.Packed.{amounts_from, numbers_from, packed}
-use Rattle.reading.specs.Answers.{read_as_of}
+use Rattle.reading.specs.Answers.{read_as}
 use Rattle.trial.specs.declared.Packed.{Packed}
 use borrow.Author.Rules.{rules}
 use lib.Dec.{lit<}
@@ -45,8 +45,8 @@ loop-k-preserved c =
             (
               length-set c.loop-k.amounts k _ ∙ inv.1.1.1.1.0,
               (
-                lay_numbers (read_as_of c.args.all.entries) k c.loop-k-test.true _ _ inv.1.0 inv.1.1.1.1.1.0 c.pack-said.result (c.pack-said.ensures ∙ ap packed reads),
-                lay_amounts (read_as_of c.args.all.entries) k c.loop-k-test.true _ _ inv.1.1.0 inv.1.1.1.1.1.1 _ (itself c.pack-said.result.amount (record { sfits = c.struct_told-1.given.1.1.1.1.0.1 }) ∙ ap (λ (v : Packed). v.amount) (c.pack-said.ensures ∙ ap packed reads)),
+                lay_numbers (read_as c.args.all.entries) k c.loop-k-test.true _ _ inv.1.0 inv.1.1.1.1.1.0 c.pack-said.result (c.pack-said.ensures ∙ ap packed reads),
+                lay_amounts (read_as c.args.all.entries) k c.loop-k-test.true _ _ inv.1.1.0 inv.1.1.1.1.1.1 _ (itself c.pack-said.result.amount (record { sfits = c.struct_told-1.given.1.1.1.1.0.1 }) ∙ ap (λ (v : Packed). v.amount) (c.pack-said.ensures ∙ ap packed reads)),
               ),
             ),
           ),
@@ -64,7 +64,7 @@ pub returns-clause-numbers_after : goal.returns-clause-numbers_after
 returns-clause-numbers_after c =
     let inv = c.loop-k.invariant in
     let all : c.loop-k.k ≡ 101 = omega (arith, c.loop-k-test.false, inv.0) in
-    let f = read_as_of c.args.all.entries in
+    let f = read_as c.args.all.entries in
     let ns = c.args.numbers.now in
     let ms = c.args.amounts.now in inv.1.1.1.1.1.0 ∙ ap (λ (k : ℕ). take (4 * k) (numbers_from f 1 101) ++ drop (4 * k) ns) all ∙ front_all ns (numbers_from f 1 101) 404 (numbers_long f 1 101)
 
@@ -72,6 +72,6 @@ pub returns-clause-amounts_after : goal.returns-clause-amounts_after
 returns-clause-amounts_after c =
     let inv = c.loop-k.invariant in
     let all : c.loop-k.k ≡ 101 = omega (arith, c.loop-k-test.false, inv.0) in
-    let f = read_as_of c.args.all.entries in
+    let f = read_as c.args.all.entries in
     let ns = c.args.numbers.now in
     let ms = c.args.amounts.now in inv.1.1.1.1.1.1 ∙ ap (λ (k : ℕ). take k (amounts_from f 1 101) ++ drop k ms) all ∙ front_all ms (amounts_from f 1 101) 101 (amounts_long f 1 101)

@@ -1,7 +1,7 @@
 -- `trial::trial_read` meets its contract: it stores and returns what `read` answers. Assumes nothing.
 use Rattle.refusals.specs.Verdicts.{verdict_number, verdict_place}
 use Rattle.checking.specs.Check.{answer_verdict}
-use Rattle.reading.specs.Answers.{read_as_of, read_of}
+use Rattle.reading.specs.Answers.{read_as, read_of}
 use Rattle.reading.specs.declared.Readings.{Readings}
 use Rattle.trial.proofs.PackedLaws.{amounts_long, laid, numbers_long, room_there, unlaid}
 use Rattle.trial.specs.Packed.{amounts_of, edition_in, numbers_of}
@@ -26,14 +26,14 @@ returns-then-has_room-clause-numbers_after c =
     let read = c.read-all.ensures in
     let verdict = c.verdict-verdict.ensures ∙ ap (λ (r : Readings). answer_verdict r.answer) read in
     let es = (read_of c.args.line.now).entries in
-    let there = sym c.has_room.ensures ∙ c.if-has_room.true in laid _ (numbers_of es) c.args.numbers.now _ 404 there (numbers_long (read_as_of es) 1 101) (c.put_all.ensures.numbers_after ∙ ap (λ (r : Readings). numbers_of r.entries ++ drop 404 c.args.numbers.now) read)
+    let there = sym c.has_room.ensures ∙ c.if-has_room.true in laid _ (numbers_of es) c.args.numbers.now _ 404 there (numbers_long (read_as es) 1 101) (c.put_all.ensures.numbers_after ∙ ap (λ (r : Readings). numbers_of r.entries ++ drop 404 c.args.numbers.now) read)
 
 pub returns-then-has_room-clause-amounts_after : goal.returns-then-has_room-clause-amounts_after
 returns-then-has_room-clause-amounts_after c =
     let read = c.read-all.ensures in
     let verdict = c.verdict-verdict.ensures ∙ ap (λ (r : Readings). answer_verdict r.answer) read in
     let es = (read_of c.args.line.now).entries in
-    let there = sym c.has_room.ensures ∙ c.if-has_room.true in laid _ (amounts_of es) c.args.amounts.now _ 101 there (amounts_long (read_as_of es) 1 101) (c.put_all.ensures.amounts_after ∙ ap (λ (r : Readings). amounts_of r.entries ++ drop 101 c.args.amounts.now) read)
+    let there = sym c.has_room.ensures ∙ c.if-has_room.true in laid _ (amounts_of es) c.args.amounts.now _ 101 there (amounts_long (read_as es) 1 101) (c.put_all.ensures.amounts_after ∙ ap (λ (r : Readings). amounts_of r.entries ++ drop 101 c.args.amounts.now) read)
 
 pub returns-then-has_room-clause-edition_after : goal.returns-then-has_room-clause-edition_after
 returns-then-has_room-clause-edition_after c =

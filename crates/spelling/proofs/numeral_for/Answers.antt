@@ -16,24 +16,29 @@ at_reading ed e f = sym (ap (numeral_for ed e) f)
 pub returns-in-Missing : goal.returns-in-Missing
 unfolding numeral_for
 returns-in-Missing c =
-    record { value = (with_fit c.args.edition c.args.e c.args.reading (c.blanks.ensures ∙ at_reading c.args.edition c.args.e c.in-Missing.is)).0; base_nonzero = (with_fit c.args.edition c.args.e c.args.reading (c.blanks.ensures ∙ at_reading c.args.edition c.args.e c.in-Missing.is)).1 }
+    let both = with_fit c.args.edition c.args.e c.args.reading (c.blanks.ensures ∙ at_reading c.args.edition c.args.e c.in-Missing.is) in
+    record { value = both.0; base_nonzero = both.1 }
 
 pub returns-in-Code : goal.returns-in-Code
 unfolding numeral_for
 returns-in-Code c =
-    record { value = (with_fit c.args.edition c.args.e c.args.reading (c.digits.ensures ∙ at_reading c.args.edition c.args.e c.in-Code.is)).0; base_nonzero = (with_fit c.args.edition c.args.e c.args.reading (c.digits.ensures ∙ at_reading c.args.edition c.args.e c.in-Code.is)).1 }
+    let both = with_fit c.args.edition c.args.e c.args.reading (c.digits.ensures ∙ at_reading c.args.edition c.args.e c.in-Code.is) in
+    record { value = both.0; base_nonzero = both.1 }
 
 pub returns-in-Text : goal.returns-in-Text
 unfolding numeral_for
 returns-in-Text c =
-    record { value = (with_fit c.args.edition c.args.e c.args.reading (c.bytes.ensures ∙ at_reading c.args.edition c.args.e c.in-Text.is)).0; base_nonzero = (with_fit c.args.edition c.args.e c.args.reading (c.bytes.ensures ∙ at_reading c.args.edition c.args.e c.in-Text.is)).1 }
+    let both = with_fit c.args.edition c.args.e c.args.reading (c.bytes.ensures ∙ at_reading c.args.edition c.args.e c.in-Text.is) in
+    record { value = both.0; base_nonzero = both.1 }
 
 pub returns-in-Amount : goal.returns-in-Amount
 unfolding numeral_for
 returns-in-Amount c =
-    record { value = (with_fit c.args.edition c.args.e c.args.reading (c.amount_numeral.ensures ∙ ap (λ (z : ℤ). amount_numeral c.args.e z c.in-Amount.kind) (itself c.in-Amount.a (record { sfits = c.in-Amount.known_told-in-Amount-1-own.given.0.1 })) ∙ at_reading c.args.edition c.args.e c.in-Amount.is)).0; base_nonzero = (with_fit c.args.edition c.args.e c.args.reading (c.amount_numeral.ensures ∙ ap (λ (z : ℤ). amount_numeral c.args.e z c.in-Amount.kind) (itself c.in-Amount.a (record { sfits = c.in-Amount.known_told-in-Amount-1-own.given.0.1 })) ∙ at_reading c.args.edition c.args.e c.in-Amount.is)).1 }
+    let both = with_fit c.args.edition c.args.e c.args.reading (c.amount_numeral.ensures ∙ ap (λ (z : ℤ). amount_numeral c.args.e z c.in-Amount.kind) (itself c.in-Amount.a (record { sfits = c.in-Amount.known_told-in-Amount-1-own.given.0.1 })) ∙ at_reading c.args.edition c.args.e c.in-Amount.is) in
+    record { value = both.0; base_nonzero = both.1 }
 
 pub returns-in-At : goal.returns-in-At
 unfolding numeral_for
 returns-in-At c =
-    record { value = (with_fit c.args.edition c.args.e c.args.reading (c.place_numeral.ensures ∙ at_reading c.args.edition c.args.e c.in-At.is)).0; base_nonzero = (with_fit c.args.edition c.args.e c.args.reading (c.place_numeral.ensures ∙ at_reading c.args.edition c.args.e c.in-At.is)).1 }
+    let both = with_fit c.args.edition c.args.e c.args.reading (c.place_numeral.ensures ∙ at_reading c.args.edition c.args.e c.in-At.is) in
+    record { value = both.0; base_nonzero = both.1 }

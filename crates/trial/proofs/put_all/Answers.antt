@@ -66,12 +66,12 @@ returns-clause-numbers_after c =
     let all : c.loop-k.k ≡ 101 = omega (arith, c.loop-k-test.false, inv.0) in
     let f = read_as c.args.all.entries in
     let ns = c.args.numbers.now in
-    let ms = c.args.amounts.now in inv.1.1.1.1.1.0 ∙ ap (λ (k : ℕ). take (4 * k) (numbers_from f 1 101) ++ drop (4 * k) ns) all ∙ front_all ns (numbers_from f 1 101) 404 (numbers_long f 1 101)
+    inv.1.1.1.1.1.0 ∙ ap (λ (k : ℕ). take (4 * k) (numbers_from f 1 101) ++ drop (4 * k) ns) all ∙ front_all ns (numbers_from f 1 101) 404 (numbers_long f 1 101)
 
 pub returns-clause-amounts_after : goal.returns-clause-amounts_after
 returns-clause-amounts_after c =
     let inv = c.loop-k.invariant in
     let all : c.loop-k.k ≡ 101 = omega (arith, c.loop-k-test.false, inv.0) in
     let f = read_as c.args.all.entries in
-    let ns = c.args.numbers.now in
-    let ms = c.args.amounts.now in inv.1.1.1.1.1.1 ∙ ap (λ (k : ℕ). take k (amounts_from f 1 101) ++ drop k ms) all ∙ front_all ms (amounts_from f 1 101) 101 (amounts_long f 1 101)
+    let ms = c.args.amounts.now in
+    inv.1.1.1.1.1.1 ∙ ap (λ (k : ℕ). take k (amounts_from f 1 101) ++ drop k ms) all ∙ front_all ms (amounts_from f 1 101) 101 (amounts_long f 1 101)

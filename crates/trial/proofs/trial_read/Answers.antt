@@ -18,68 +18,58 @@ pub returns-then-has_room-clause-value : goal.returns-then-has_room-clause-value
 returns-then-has_room-clause-value c =
     let read = c.read-all.ensures in
     let verdict = c.verdict-verdict.ensures ∙ ap (λ (r : Readings). answer_verdict r.answer) read in
-    let es = (read_of c.args.line.now).entries in
-    let there = sym c.has_room.ensures ∙ c.if-has_room.true in c.number-number.ensures ∙ ap verdict_number verdict
+    c.number-number.ensures ∙ ap verdict_number verdict
 
 pub returns-then-has_room-clause-numbers_after : goal.returns-then-has_room-clause-numbers_after
 returns-then-has_room-clause-numbers_after c =
     let read = c.read-all.ensures in
-    let verdict = c.verdict-verdict.ensures ∙ ap (λ (r : Readings). answer_verdict r.answer) read in
     let es = (read_of c.args.line.now).entries in
-    let there = sym c.has_room.ensures ∙ c.if-has_room.true in laid _ (numbers_of es) c.args.numbers.now _ 404 there (numbers_long (read_as es) 1 101) (c.put_all.ensures.numbers_after ∙ ap (λ (r : Readings). numbers_of r.entries ++ drop 404 c.args.numbers.now) read)
+    let there = sym c.has_room.ensures ∙ c.if-has_room.true in
+    laid _ (numbers_of es) c.args.numbers.now _ 404 there (numbers_long (read_as es) 1 101) (c.put_all.ensures.numbers_after ∙ ap (λ (r : Readings). numbers_of r.entries ++ drop 404 c.args.numbers.now) read)
 
 pub returns-then-has_room-clause-amounts_after : goal.returns-then-has_room-clause-amounts_after
 returns-then-has_room-clause-amounts_after c =
     let read = c.read-all.ensures in
-    let verdict = c.verdict-verdict.ensures ∙ ap (λ (r : Readings). answer_verdict r.answer) read in
     let es = (read_of c.args.line.now).entries in
-    let there = sym c.has_room.ensures ∙ c.if-has_room.true in laid _ (amounts_of es) c.args.amounts.now _ 101 there (amounts_long (read_as es) 1 101) (c.put_all.ensures.amounts_after ∙ ap (λ (r : Readings). amounts_of r.entries ++ drop 101 c.args.amounts.now) read)
+    let there = sym c.has_room.ensures ∙ c.if-has_room.true in
+    laid _ (amounts_of es) c.args.amounts.now _ 101 there (amounts_long (read_as es) 1 101) (c.put_all.ensures.amounts_after ∙ ap (λ (r : Readings). amounts_of r.entries ++ drop 101 c.args.amounts.now) read)
 
 pub returns-then-has_room-clause-edition_after : goal.returns-then-has_room-clause-edition_after
 returns-then-has_room-clause-edition_after c =
     let read = c.read-all.ensures in
-    let verdict = c.verdict-verdict.ensures ∙ ap (λ (r : Readings). answer_verdict r.answer) read in
-    let es = (read_of c.args.line.now).entries in
-    let there = sym c.has_room.ensures ∙ c.if-has_room.true in c.edition_in-held.ensures ∙ ap (λ (r : Readings). edition_in r.answer) read
+    c.edition_in-held.ensures ∙ ap (λ (r : Readings). edition_in r.answer) read
 
 pub returns-then-has_room-clause-place_after : goal.returns-then-has_room-clause-place_after
 returns-then-has_room-clause-place_after c =
     let read = c.read-all.ensures in
     let verdict = c.verdict-verdict.ensures ∙ ap (λ (r : Readings). answer_verdict r.answer) read in
-    let es = (read_of c.args.line.now).entries in
-    let there = sym c.has_room.ensures ∙ c.if-has_room.true in c.place-at.ensures ∙ ap verdict_place verdict
+    c.place-at.ensures ∙ ap verdict_place verdict
 
 pub returns-else-has_room-clause-value : goal.returns-else-has_room-clause-value
 returns-else-has_room-clause-value c =
-    let es = (read_of c.args.line.now).entries in
     let read = c.read-all.ensures in
     let verdict = c.verdict-verdict.ensures ∙ ap (λ (r : Readings). answer_verdict r.answer) read in
-    let none = sym c.has_room.ensures ∙ c.if-has_room.false in c.number-number.ensures ∙ ap verdict_number verdict
+    c.number-number.ensures ∙ ap verdict_number verdict
 
 pub returns-else-has_room-clause-numbers_after : goal.returns-else-has_room-clause-numbers_after
 returns-else-has_room-clause-numbers_after c =
     let es = (read_of c.args.line.now).entries in
-    let read = c.read-all.ensures in
-    let verdict = c.verdict-verdict.ensures ∙ ap (λ (r : Readings). answer_verdict r.answer) read in
-    let none = sym c.has_room.ensures ∙ c.if-has_room.false in unlaid _ (numbers_of es) _ none
+    let none = sym c.has_room.ensures ∙ c.if-has_room.false in
+    unlaid _ (numbers_of es) _ none
 
 pub returns-else-has_room-clause-amounts_after : goal.returns-else-has_room-clause-amounts_after
 returns-else-has_room-clause-amounts_after c =
     let es = (read_of c.args.line.now).entries in
-    let read = c.read-all.ensures in
-    let verdict = c.verdict-verdict.ensures ∙ ap (λ (r : Readings). answer_verdict r.answer) read in
-    let none = sym c.has_room.ensures ∙ c.if-has_room.false in unlaid _ (amounts_of es) _ none
+    let none = sym c.has_room.ensures ∙ c.if-has_room.false in
+    unlaid _ (amounts_of es) _ none
 
 pub returns-else-has_room-clause-edition_after : goal.returns-else-has_room-clause-edition_after
 returns-else-has_room-clause-edition_after c =
-    let es = (read_of c.args.line.now).entries in
     let read = c.read-all.ensures in
-    let verdict = c.verdict-verdict.ensures ∙ ap (λ (r : Readings). answer_verdict r.answer) read in
-    let none = sym c.has_room.ensures ∙ c.if-has_room.false in c.edition_in-held.ensures ∙ ap (λ (r : Readings). edition_in r.answer) read
+    c.edition_in-held.ensures ∙ ap (λ (r : Readings). edition_in r.answer) read
 
 pub returns-else-has_room-clause-place_after : goal.returns-else-has_room-clause-place_after
 returns-else-has_room-clause-place_after c =
-    let es = (read_of c.args.line.now).entries in
     let read = c.read-all.ensures in
     let verdict = c.verdict-verdict.ensures ∙ ap (λ (r : Readings). answer_verdict r.answer) read in
-    let none = sym c.has_room.ensures ∙ c.if-has_room.false in c.place-at.ensures ∙ ap verdict_place verdict
+    c.place-at.ensures ∙ ap verdict_place verdict

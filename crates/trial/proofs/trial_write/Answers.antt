@@ -25,4 +25,4 @@ pub returns-clause-buffer_after : goal.returns-clause-buffer_after
 returns-clause-buffer_after c =
     let args = c.args in
     let call = ap (λ (es : List Entry). written (readings es) args.edition) c.entries_of.ensures in
-    let verdict = c.write-verdict.ensures.said ∙ ap (verdict_in (length args.buffer.now)) call in c.write-verdict.ensures.left ∙ ap (λ (d : Call Quiet). left_by d args.buffer.now) call
+    c.write-verdict.ensures.left ∙ ap (λ (d : Call Quiet). left_by d args.buffer.now) call

@@ -8,7 +8,7 @@
 ghost use Rattle.std.specs.Prelude.{◌≡◌};
 ghost use Rattle.element_sets.specs.ElementSets.{no_elements, with_element, has_element, count_of, lowest_of};
 
-#[derive(Clone, Copy)]
+#[derive(Clone, Copy, PartialEq, Eq)]
 pub struct ElementSet {
     pub low: u64,
     pub high: u64,

@@ -15,7 +15,7 @@ pub const LONGEST: usize = 159;
 
 pub const ELEMENTS: usize = 101;
 
-#[derive(Clone, Copy)]
+#[derive(Clone, Copy, PartialEq, Eq)]
 pub enum Edition {
     One,
     Three,

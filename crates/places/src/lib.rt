@@ -14,7 +14,7 @@ use layout::Edition;
 
 // Where the ship was: hundredths of a degree of latitude, negative in the south, and of east longitude
 // from 0 to 35999, and the digit of column 12 as it stands.
-#[derive(Clone, Copy)]
+#[derive(Clone, Copy, PartialEq, Eq)]
 pub struct Place {
     pub latitude: i64,
     pub longitude: u64,

@@ -20,7 +20,7 @@ use layout::{ELEMENTS, Edition, page};
 use places::Place;
 
 // How an amount came about.
-#[derive(Clone, Copy)]
+#[derive(Clone, Copy, PartialEq, Eq)]
 pub enum Kind {
     Measured,
     Computed,
@@ -28,7 +28,7 @@ pub enum Kind {
     IcedComputed,
 }
 
-#[derive(Clone, Copy)]
+#[derive(Clone, Copy, PartialEq, Eq)]
 pub enum Reading {
     Missing,
     Code(u64),

@@ -9,7 +9,7 @@ ghost use Rattle.refusals.specs.Refusals.{number_of, where_of};
 ghost use Rattle.refusals.specs.Verdicts.{verdict_number, verdict_place};
 
 // Why a call refuses, with the place where that goes by the input.
-#[derive(Clone, Copy)]
+#[derive(Clone, Copy, PartialEq, Eq)]
 pub enum Refusal {
     // length neither 131 nor 159
     Length,

@@ -9,7 +9,8 @@ use native.Mathlib.Numerals.{add-one}
 use native.Mathlib.Omega.{arith}
 use borrow.Author.Tests.{leb-true, leb-false}
 use lib.Dec.{leb}
-use Rattle.text.specs.First.{first_from, first_of}
+use Rattle.std.proofs.Common.{Some, None}
+use Rattle.text.specs.First.{first_from, first_of, nonzero}
 use Rattle.text.proofs.Ways.{decide}
 
 left : (n k : ℕ) → k ≤ n → n + 1 - k ≡ suc (n + 1 - (k + 1))
@@ -107,3 +108,24 @@ all_of_none p k n l z j = all (first_from p k n) z (looked p k n)
     all : (q : ℕ) → q ≡ 0 → Looked p k n q → k ≤ j → j < k + n → p j ≡ true
     all q e (nowhere f) = f j
     all q e (lowest r a b x f) = absurd (omega arith)
+
+-- what a place answered with nonzero says: the place itself, which is not 0, or that it is 0
+pub nonzero_is : (n m : ℕ) → nonzero n ≡ Some m → n ≡ m
+nonzero_is zero m e = cc
+nonzero_is (suc n) m e = cc
+
+pub nonzero_some : (n m : ℕ) → nonzero n ≡ Some m → 0 < m
+nonzero_some zero m e = let z : ◌≡◌ {A = ℕ} 0 1 = cc in absurd (omega arith)
+nonzero_some (suc n) m e = let f : suc n ≡ m = cc in omega arith
+
+pub nonzero_none : (n : ℕ) → nonzero n ≡ None → n ≡ 0
+nonzero_none zero e = refl
+nonzero_none (suc n) e = let z : ◌≡◌ {A = ℕ} 0 1 = cc in absurd (omega arith)
+
+-- and back
+pub none_nonzero : (n : ℕ) → n ≡ 0 → None ≡ nonzero n
+none_nonzero n e = rw e
+
+pub some_nonzero : (n : ℕ) → 0 < n → Some n ≡ nonzero n
+some_nonzero zero h = absurd (omega arith)
+some_nonzero (suc n) h = refl

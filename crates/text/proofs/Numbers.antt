@@ -1,5 +1,5 @@
 -- A loop over the digits of a number: what is left of `number_from`, and how large the number can grow. Assumes nothing.
-use mathlib.Core.Path.{◌≡◌, refl, sym, ap, ◌∙◌}
+use mathlib.Core.Path.{◌≡◌}
 use mathlib.Core.Bool.{Bool, true, false, cond, ◌&&◌}
 use mathlib.Core.List.{List}
 use Prim.Native.Nat.{ℕ, ◌+◌, ◌-◌, ◌*◌, ◌^◌, ◌<◌, ◌≤◌}
@@ -12,8 +12,7 @@ use lib.ListN.{length, get_or, drop, drop_of_length-le}
 use lib.Seq.{drop-cons}
 use Rattle.text.specs.Bytes.{value_from, number, is_digit, digits}
 use Rattle.text.specs.LegalTexts.{among, digits_from, digits_in}
-use Rattle.text.specs.declared.Digits.{Digits}
-use Rattle.text.specs.declared.Digits.TheVariants.{Number, Other}
+use Rattle.std.proofs.Common.{Option, Some, None, MatchOption}
 use Rattle.text.proofs.Every.{on, off, end}
 
 -- one byte more of a value in any base, and no more
@@ -39,31 +38,22 @@ module _ (n : ℕ) (xs : List ℕ) (i : ℕ) where
   unfolding digits_from
   digit_more h d = rw (on is_digit xs i h d, more 10 48 n xs i h)
 
-  pub no_digit : i < length xs → is_digit (get_or xs i 0) ≡ false → digits_from n (drop i xs) ≡ Other
+  pub no_digit : i < length xs → is_digit (get_or xs i 0) ≡ false → digits_from n (drop i xs) ≡ None
   unfolding digits_from
   no_digit h d = rw (off is_digit xs i h d)
 
-  pub digits_end : length xs ≤ i → digits_from n (drop i xs) ≡ Number n
+  pub digits_end : length xs ≤ i → digits_from n (drop i xs) ≡ Some n
   unfolding digits_from
   digits_end h = rw (end is_digit xs i h, no_more 10 48 n xs i h)
 
--- a test of the number that some bytes say, where they are digits and where they are not
-module _ (p : ℕ → Bool) (t : List ℕ) (m : Digits) (e : m ≡ digits_in t) where
-  pub with_digits : (n : ℕ) → m ≡ Number n → (y : Bool) → y ≡ p n → y ≡ (digits t && p (number t))
-  unfolding digits_from
-  with_digits n d y f = f ∙ said (digits t) (number t) (sym d ∙ e)
-    where
-      said : (b : Bool) (k : ℕ) → Number n ≡ cond b (Number k) Other → p n ≡ (b && p k)
-      said true k g = let h : n ≡ k = cc in ap p h
-      said false k g = let z : ◌≡◌ {A = ℕ} 0 1 = cc in absurd (omega arith)
-
-  pub without_digits : m ≡ Other → false ≡ (digits t && p (number t))
-  unfolding digits_from
-  without_digits d = unsaid (digits t) (number t) (sym d ∙ e)
-    where
-      unsaid : (b : Bool) (k : ℕ) → Other ≡ cond b (Number k) Other → false ≡ (b && p k)
-      unsaid true k g = let z : ◌≡◌ {A = ℕ} 0 1 = cc in absurd (omega arith)
-      unsaid false k g = refl
+-- a test of the number that some bytes say, if they are digits
+pub if_digits : (p : ℕ → Bool) (t : List ℕ) (m : Option ℕ) (r : Bool) (Q : ℕ → Type 0) → m ≡ digits_in t → MatchOption m (r ≡ false) Q → ((n : ℕ) → Q n → r ≡ p n) → r ≡ (digits t && p (number t))
+unfolding digits_from
+if_digits p t m r Q e h g = by (digits t) (rw e at h)
+  where
+    by : (d : Bool) → MatchOption (cond d (Some (number t)) None) (r ≡ false) Q → r ≡ (d && p (number t))
+    by true f = g _ f
+    by false f = f
 
 pub among_last : (n a b c d : ℕ) → (n ≡ a → ⊥) → (n ≡ b → ⊥) → (n ≡ c → ⊥) → eqb n d ≡ among a b c d n
 among_last n a b c d p q r = rw (ne_eqb n a p, ne_eqb n b q, ne_eqb n c r)

@@ -1,10 +1,8 @@
 -- Which texts a legal form allows. Assumes nothing.
-use Rattle.std.specs.Prelude.{ℕ, List, [], ◌∷◌, Bool, false, cond, ◌&&◌, ◌||◌, eqb, leb, drop}
+use Rattle.std.specs.Prelude.{ℕ, List, [], ◌∷◌, Bool, false, cond, ◌&&◌, ◌||◌, eqb, leb, drop, Option, Some, None}
 use Rattle.text.specs.Bytes.{every, between, either, printable, is_digit, is_letter, blank, digits, number, number_from, run}
 use Rattle.text.specs.declared.LegalTexts.{LegalTexts}
 use Rattle.text.specs.declared.LegalTexts.TheVariants.{Nothing, Printable, Letters, CallSign, DigitOr, Within, Either, OneOf}
-use Rattle.text.specs.declared.Digits.{Digits}
-use Rattle.text.specs.declared.Digits.TheVariants.{Number, Other}
 
 -- a number that is one of four
 abbrev pub among : ℕ → ℕ → ℕ → ℕ → ℕ → Bool
@@ -39,8 +37,8 @@ allows (Either a b c d) t = digits t && either a b c d (number t)
 allows (OneOf a b c d) t = digits t && among a b c d (number t)
 
 -- what some bytes say after digits that said n: the number where all of them are digits
-unfoldable pub digits_from : ℕ → List ℕ → Digits
-digits_from n t = cond (digits t) (Number (number_from n t)) Other
+unfoldable pub digits_from : ℕ → List ℕ → Option ℕ
+digits_from n t = cond (digits t) (Some (number_from n t)) None
 
-abbrev pub digits_in : List ℕ → Digits
+abbrev pub digits_in : List ℕ → Option ℕ
 digits_in t = digits_from 0 t

@@ -30,13 +30,6 @@ pub enum LegalTexts {
     OneOf(u32, u32, u32, u32),
 }
 
-// What some bytes say, taken as a number.
-#[derive(Clone, Copy)]
-pub enum Digits {
-    Number(u32),
-    Other,
-}
-
 // Is every byte one from lo to hi?
 pub fn all_between(text: &[u8], lo: u8, hi: u8) -> bool
     ensures { result ≡ every (between lo hi) text.now }
@@ -178,7 +171,7 @@ fn is_digit_or(text: &[u8], x: u8) -> bool
 }
 
 // The number that up to seven bytes say, if they are digits.
-fn digits_in(text: &[u8]) -> Digits
+fn digits_in(text: &[u8]) -> Option<u32>
     requires { length text.now ≤ 7 }
     ensures { result ≡ digits_in text.now }
 {
@@ -187,15 +180,15 @@ fn digits_in(text: &[u8]) -> Digits
     while i < text.len() {
         let b = text[i];
         if b < 48 {
-            return Digits::Other;
+            return None;
         }
         if 57 < b {
-            return Digits::Other;
+            return None;
         }
         n = n * 10 + value(b - 48);
         i += 1;
     }
-    Digits::Number(n)
+    Some(n)
 }
 
 // Are these digits whose number is from a to b?
@@ -203,10 +196,7 @@ fn is_within(text: &[u8], a: u32, b: u32) -> bool
     requires { length text.now ≤ 7 }
     ensures { result ≡ allows (LegalTexts.Within a b) text.now }
 {
-    match digits_in(text) {
-        Digits::Number(n) => is_between(n, a, b),
-        Digits::Other => false,
-    }
+    digits_in(text).is_some_and(|n| is_between(n, a, b))
 }
 
 // Are these digits whose number is from a to b or from c to d?
@@ -214,10 +204,7 @@ fn is_in_either(text: &[u8], a: u32, b: u32, c: u32, d: u32) -> bool
     requires { length text.now ≤ 7 }
     ensures { result ≡ allows (LegalTexts.Either a b c d) text.now }
 {
-    match digits_in(text) {
-        Digits::Number(n) => is_either(n, a, b, c, d),
-        Digits::Other => false,
-    }
+    digits_in(text).is_some_and(|n| is_either(n, a, b, c, d))
 }
 
 // Are these digits whose number is one of four?
@@ -225,10 +212,7 @@ fn is_one_of(text: &[u8], a: u32, b: u32, c: u32, d: u32) -> bool
     requires { length text.now ≤ 7 }
     ensures { result ≡ allows (LegalTexts.OneOf a b c d) text.now }
 {
-    match digits_in(text) {
-        Digits::Number(n) => is_among(n, a, b, c, d),
-        Digits::Other => false,
-    }
+    digits_in(text).is_some_and(|n| is_among(n, a, b, c, d))
 }
 
 // Is the text one of these texts?

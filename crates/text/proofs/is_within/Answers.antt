@@ -1,14 +1,10 @@
 -- `text::is_within` meets its contract. Assumes nothing.
-use Rattle.text.proofs.Numbers.{with_digits, without_digits}
+use Rattle.std.proofs.Common.{rules}
+use Rattle.text.proofs.Numbers.{if_digits}
 use Rattle.text.specs.Bytes.{between}
 use Rattle.text.specs.LegalTexts.{allows}
 use Rattle.text.proofs.is_within.Goals as goal
 
-pub returns-in-Number : goal.returns-in-Number
+pub returns : goal.returns
 unfolding allows
-returns-in-Number c =
-    with_digits (between _ _) _ _ c.digits_in.ensures _ c.in-Number.is _ c.is_between.ensures
-
-pub returns-in-Other : goal.returns-in-Other
-unfolding allows
-returns-in-Other c = without_digits (between _ _) _ _ c.digits_in.ensures c.in-Other.is
+returns c = if_digits (between _ _) _ _ _ _ c.digits_in.ensures c.is_some_and.ensures (λ n q. search rules)

@@ -9,7 +9,7 @@ use lib.Dec.{leb}
 use lib.ListN.{length}
 use Rattle.refusals.specs.declared.Refusal.{Refusal}
 use Rattle.refusals.specs.declared.Refusal.TheVariants.{Room}
-use Rattle.refusals.specs.declared.Verdict.TheVariants.{Fine, Refused}
+use Rattle.std.proofs.Common.{Ok, Err}
 use Rattle.refusals.specs.Verdicts.{unless}
 use Rattle.refusals.specs.Lent.{Call, refusing, writing, in_room, verdict_of, verdict_in, front_of, overwritten, left_by, Answers}
 
@@ -23,12 +23,12 @@ module _ {A : Type 0} (a : A) (bytes : List ℕ) (room : ℕ) where
   lacks_room h = rw (lt-leb (length bytes) room h)
 
 -- a verdict that is not for room was given by the call's own rules
-pub by_its_rules : {A : Type 0} (room : ℕ) (r : Refusal) → (r ≡ Room → ⊥) → (call : Call A) → verdict_in room call ≡ Refused r → call ≡ refusing r
+pub by_its_rules : {A : Type 0} (room : ℕ) (r : Refusal) → (r ≡ Room → ⊥) → (call : Call A) → verdict_in room call ≡ Err r → call ≡ refusing r
 unfolding in_room
 by_its_rules room r other (refusing s) f = let same : s ≡ r = cc in ap refusing same
 by_its_rules room r other (writing a bytes) f = absurd (by (leb (length bytes) room) f)
   where
-    by : (t : Bool) → verdict_of (unless refusing t Room (writing a bytes)) ≡ Refused r → ⊥
+    by : (t : Bool) → verdict_of (unless refusing t Room (writing a bytes)) ≡ Err r → ⊥
     by true g = let z : ◌≡◌ {A = ℕ} 0 1 = cc in omega arith
     by false g = let same : r ≡ Room = cc in other same
 
@@ -39,21 +39,21 @@ pub record Wrote {A : Type 0} (call : Call A) (room : ℕ) : Type 0 where
   pub is : call ≡ writing says bytes
   pub fits : length bytes ≤ room
 
-pub fine_means : {A : Type 0} (room : ℕ) (call : Call A) → verdict_in room call ≡ Fine → Wrote call room
+pub fine_means : {A : Type 0} (room : ℕ) (call : Call A) → verdict_in room call ≡ Ok tt → Wrote call room
 unfolding in_room
 fine_means room (refusing r) f = let z : ◌≡◌ {A = ℕ} 0 1 = cc in absurd (omega arith)
 fine_means room (writing a bytes) f = by (leb (length bytes) room) refl f
   where
-    by : (t : Bool) → leb (length bytes) room ≡ t → verdict_of (unless refusing t Room (writing a bytes)) ≡ Fine → Wrote (writing a bytes) room
+    by : (t : Bool) → leb (length bytes) room ≡ t → verdict_of (unless refusing t Room (writing a bytes)) ≡ Ok tt → Wrote (writing a bytes) room
     by true h g = record { says = a; bytes = bytes; is = refl; fits = leb-true _ _ h }
     by false h g = let z : ◌≡◌ {A = ℕ} 0 1 = cc in absurd (omega arith)
 
 module _ {A : Type 0} (call : Call A) (before : List ℕ) where
   -- a refused call leaves the lent buffer as it was
-  pub refused_untouched : (r : Refusal) → verdict_in (length before) call ≡ Refused r → left_by call before ≡ before
+  pub refused_untouched : (r : Refusal) → verdict_in (length before) call ≡ Err r → left_by call before ≡ before
   refused_untouched r e = by (in_room (length before) call) e
     where
-      by : (c : Call A) → verdict_of c ≡ Refused r → overwritten (front_of c) before ≡ before
+      by : (c : Call A) → verdict_of c ≡ Err r → overwritten (front_of c) before ≡ before
       by (refusing s) f = refl
       by (writing a bytes) f = let z : ◌≡◌ {A = ℕ} 0 1 = cc in absurd (omega arith)
 

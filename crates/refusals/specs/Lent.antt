@@ -1,10 +1,8 @@
 -- What a call does to a buffer that is lent to it, once for all calls: a call says what it writes, and here stands what the buffer holds afterwards. Assumes nothing.
-use Rattle.std.specs.Prelude.{ℕ, ◌≡◌, List, [], ◌++◌, leb, length, drop}
+use Rattle.std.specs.Prelude.{ℕ, ◌≡◌, List, [], ◌++◌, leb, length, drop, Ok, Err}
 use Rattle.refusals.specs.declared.Refusal.{Refusal}
 use Rattle.refusals.specs.declared.Refusal.TheVariants.{Room}
-use Rattle.refusals.specs.declared.Verdict.{Verdict}
-use Rattle.refusals.specs.declared.Verdict.TheVariants.{Fine, Refused}
-use Rattle.refusals.specs.Verdicts.{unless}
+use Rattle.refusals.specs.Verdicts.{Verdict, unless}
 
 -- what a call comes to by its own rules: it refuses, or it writes some bytes and says something besides
 pub data Call (A : Type 0) : Type 0 where
@@ -21,8 +19,8 @@ in_room room (refusing r) = refusing r
 in_room room (writing a bytes) = unless refusing (leb (length bytes) room) Room (writing a bytes)
 
 abbrev pub verdict_of : {A : Type 0} → Call A → Verdict
-verdict_of (refusing r) = Refused r
-verdict_of (writing a bytes) = Fine
+verdict_of (refusing r) = Err r
+verdict_of (writing a bytes) = Ok tt
 
 abbrev pub verdict_in : {A : Type 0} → ℕ → Call A → Verdict
 verdict_in room call = verdict_of (in_room room call)

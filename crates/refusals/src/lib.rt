@@ -68,30 +68,24 @@ impl Refusal {
 }
 
 // What a call says of what it was given.
-#[derive(Clone, Copy)]
-pub enum Verdict {
-    Fine,
-    Refused(Refusal),
+pub type Verdict = Result<(), Refusal>;
+
+// The number of the refusal, 0 where there is none.
+pub fn number_of(verdict: Verdict) -> u64
+    ensures { result ≡ verdict_number verdict }
+{
+    match verdict {
+        Ok(()) => 0,
+        Err(refusal) => refusal.number(),
+    }
 }
 
-impl Verdict {
-    // The number of the refusal, 0 where there is none.
-    pub fn number(self) -> u64
-        ensures { result ≡ verdict_number self }
-    {
-        match self {
-            Verdict::Fine => 0,
-            Verdict::Refused(refusal) => refusal.number(),
-        }
-    }
-
-    // The place that goes with it.
-    pub fn place(self) -> u64
-        ensures { result ≡ verdict_place self }
-    {
-        match self {
-            Verdict::Fine => 0,
-            Verdict::Refused(refusal) => refusal.place(),
-        }
+// The place that goes with it.
+pub fn place_of(verdict: Verdict) -> u64
+    ensures { result ≡ verdict_place verdict }
+{
+    match verdict {
+        Ok(()) => 0,
+        Err(refusal) => refusal.place(),
     }
 }

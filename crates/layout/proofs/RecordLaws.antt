@@ -9,9 +9,9 @@ use native.Mathlib.Omega.{arith}
 use lib.Dec.{lit≤}
 use lib.ListN.{length, take, drop, length-append, length-drop}
 use lib.Seq.{take_all, take_at, drop_at, length-take-le, take-take, take-add, drop-drop}
+use Rattle.std.proofs.Common.{Some}
 use Rattle.layout.specs.declared.Edition.{Edition}
 use Rattle.layout.specs.declared.Edition.TheVariants.{One, Three, Four}
-use Rattle.layout.specs.declared.Named.TheVariants.{Known}
 use Rattle.layout.specs.Editions.{asked, edition_number, length_of, last_of}
 use Rattle.layout.specs.Page.{columns, width_of, start_of, text_of}
 use Rattle.layout.specs.Records.{row_from, record_from}
@@ -26,14 +26,14 @@ part_of_front s w n l h k = sym (cut s w (take n l) (omega (arith, length-take-l
     cut s w l h = ap (drop s) (take-add s w l) ∙ drop_at (take s l) (take w (drop s l)) s (length-take-le s l (omega arith))
 
 -- an edition goes by its number
-pub by_number : (ed : Edition) → asked (edition_number ed) ≡ Known ed
+pub by_number : (ed : Edition) → asked (edition_number ed) ≡ Some ed
 by_number One = refl
 by_number Three = refl
 by_number Four = refl
 
 -- two editions that go by one number are one
 pub same_number : (a b : Edition) → edition_number a ≡ edition_number b → a ≡ b
-same_number a b e = let known : Known a ≡ Known b = sym (by_number a) ∙ ap asked e ∙ by_number b in cc
+same_number a b e = let known : Some a ≡ Some b = sym (by_number a) ∙ ap asked e ∙ by_number b in cc
 
 -- the longest record has 159 columns, the shortest 131
 pub most : (ed : Edition) → length_of ed ≤ 159

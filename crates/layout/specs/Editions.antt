@@ -1,17 +1,15 @@
 -- The editions: which character in column 111 names each, its number, its length, and its last element. Assumes nothing.
-use Rattle.std.specs.Prelude.{ℕ, cond, eqb}
+use Rattle.std.specs.Prelude.{ℕ, Option, Some, None, cond, eqb}
 use Rattle.layout.specs.declared.Edition.{Edition}
 use Rattle.layout.specs.declared.Edition.TheVariants.{One, Three, Four}
-use Rattle.layout.specs.declared.Named.{Named}
-use Rattle.layout.specs.declared.Named.TheVariants.{Known, Unknown}
 
 -- the edition that a character names: '1', '3', '4', and no other
-abbrev pub edition_of : ℕ → Named
-edition_of b = cond (eqb b 49) (Known One) (cond (eqb b 51) (Known Three) (cond (eqb b 52) (Known Four) Unknown))
+abbrev pub edition_of : ℕ → Option Edition
+edition_of b = cond (eqb b 49) (Some One) (cond (eqb b 51) (Some Three) (cond (eqb b 52) (Some Four) None))
 
 -- the edition that is asked for by its number: 1, 3, 4, and no other
-abbrev pub asked : ℕ → Named
-asked n = cond (eqb n 1) (Known One) (cond (eqb n 3) (Known Three) (cond (eqb n 4) (Known Four) Unknown))
+abbrev pub asked : ℕ → Option Edition
+asked n = cond (eqb n 1) (Some One) (cond (eqb n 3) (Some Three) (cond (eqb n 4) (Some Four) None))
 
 -- the number that an edition goes by
 abbrev pub edition_number : Edition → ℕ

@@ -22,13 +22,6 @@ pub enum Edition {
     Four,
 }
 
-// What the character in column 111 names.
-#[derive(Clone, Copy)]
-pub enum Named {
-    Known(Edition),
-    Unknown,
-}
-
 impl Edition {
     // Each edition has a length of its own, and a last element.
     pub const LENGTH_1: usize = 131;
@@ -43,27 +36,27 @@ impl Edition {
 
     pub const LAST_4: usize = ELEMENTS;
 
-    // The edition that the character in column 111 names.
-    pub fn of_digit(b: u8) -> Named
+    // The edition that the character in column 111 names, if it names one.
+    pub fn of_digit(b: u8) -> Option<Edition>
         ensures { result ≡ edition_of b }
     {
         match b {
-            b'1' => Named::Known(Edition::One),
-            b'3' => Named::Known(Edition::Three),
-            b'4' => Named::Known(Edition::Four),
-            _ => Named::Unknown,
+            b'1' => Some(Edition::One),
+            b'3' => Some(Edition::Three),
+            b'4' => Some(Edition::Four),
+            _ => None,
         }
     }
 
-    // The edition that is asked for by its number.
-    pub fn of_number(n: u64) -> Named
+    // The edition that is asked for by its number, if there is one.
+    pub fn of_number(n: u64) -> Option<Edition>
         ensures { result ≡ asked n }
     {
         match n {
-            1 => Named::Known(Edition::One),
-            3 => Named::Known(Edition::Three),
-            4 => Named::Known(Edition::Four),
-            _ => Named::Unknown,
+            1 => Some(Edition::One),
+            3 => Some(Edition::Three),
+            4 => Some(Edition::Four),
+            _ => None,
         }
     }
 

@@ -3,7 +3,7 @@
 // `page` of specs/Page.antt is the page.
 ghost use Rattle.std.specs.Prelude.{◌≡◌, ◌&&◌, ◌+◌, ◌<◌, ◌≤◌, length, take, drop};
 ghost use Rattle.text.specs.Bytes.{blank};
-ghost use Rattle.text.specs.First.{first_of};
+ghost use Rattle.text.specs.First.{first_of, nonzero};
 ghost use Rattle.layout.specs.Editions.{length_of, last_of};
 ghost use Rattle.layout.specs.Page.{width_of, start_of, text_of, first_byte, may_be_blank, legal_text, legal};
 
@@ -52,23 +52,20 @@ fn is_legal(edition: Edition, e: usize, text: &[u8]) -> bool
     is_missing(e, text) || text::is_one(legal_texts::legal_texts(edition, e), text)
 }
 
-// The lowest element that is neither blank nor legal, or 0.
-pub fn first_illegal(edition: Edition, line: &[u8]) -> usize
+// The lowest element that is neither blank nor legal, if there is one.
+pub fn first_illegal(edition: Edition, line: &[u8]) -> Option<usize>
     requires { length line.now ≡ length_of edition }
-    ensures { result ≡ first_of (last_of edition) (legal edition line.now) }
+    ensures { result ≡ nonzero (first_of (last_of edition) (legal edition line.now)) }
 {
-    let last = edition.last();
     let mut at = 0;
-    let mut e = 1;
-    while e <= last {
+    for e in 1..=edition.last() {
         let end = at + width_of(e);
         if !is_legal(edition, e, &line[at..end]) {
-            return e;
+            return Some(e);
         }
         at = end;
-        e += 1;
     }
-    0
+    None
 }
 
 // The characters of element e: as many of its columns as the record has.

@@ -2,7 +2,7 @@
 use mathlib.Core.Path.{◌≡◌, refl, ap, ◌∙◌}
 use mathlib.Core.Bool.{Bool, true, false}
 use mathlib.Core.List.{List, [], ◌∷◌}
-use Prim.Native.Nat.{ℕ, zero, suc, ◌-◌, ◌<◌, ◌≤◌}
+use Prim.Native.Nat.{ℕ, zero, suc, ◌+◌, ◌-◌, ◌<◌, ◌≤◌}
 use native.Mathlib.Nat.{le_of_suc-le-suc, not-suc-le-zero}
 use native.Mathlib.Numerals.{add-one}
 use native.Mathlib.Omega.{arith}
@@ -42,13 +42,13 @@ back n h = omega arith
 
 module _ (xs : List ℕ) (n : ℕ) (h : n ≤ length xs) (z : 0 < n) (e : blank (drop n xs) ≡ true) where
   -- the byte before the blanks is not blank, or one more of them
-  pub stops : (get_or xs (n - 1) 0 ≡ 32 → ⊥) → take n xs ≡ to_last_non_blank xs
-  stops f = rw (back n z) at (last_at xs (n - 1) (omega arith) f (rw (back n z) e))
+  pub stops : (get_or xs (n - 1) 0 ≡ 32 → ⊥) → take (n - 1 + 1) xs ≡ to_last_non_blank xs
+  stops f = rw (add-one (n - 1)) (last_at xs (n - 1) (omega arith) f (rw (back n z) e))
 
   pub goes_back : get_or xs (n - 1) 0 ≡ 32 → blank (drop (n - 1) xs) ≡ true
   goes_back b = on (between 32 32) xs (n - 1) (omega arith) (blank_byte _ b) ∙ ap (λ (k : ℕ). blank (drop k xs)) (add-one (n - 1) ∙ back n z) ∙ e
 
 -- all of them are blank
-pub nothing_left : (xs : List ℕ) (n : ℕ) → n ≤ 0 → blank (drop n xs) ≡ true → take n xs ≡ to_last_non_blank xs
+pub nothing_left : (xs : List ℕ) (n : ℕ) → n ≤ 0 → blank (drop n xs) ≡ true → [] ≡ to_last_non_blank xs
 nothing_left xs zero h e = all_blank xs e
 nothing_left xs (suc n) h e = absurd (not-suc-le-zero h)

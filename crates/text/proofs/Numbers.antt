@@ -6,14 +6,12 @@ use Prim.Native.Nat.{ℕ, ◌+◌, ◌-◌, ◌*◌, ◌^◌, ◌<◌, ◌≤◌
 use native.Mathlib.Nat.{pow-succ', pow-le-pow_right}
 use native.Mathlib.Numerals.{add-one}
 use native.Mathlib.Omega.{arith}
-use borrow.Author.Tests.{ne_eqb}
-use lib.Dec.{eqb, lit<}
+use lib.Dec.{lit<}
 use lib.ListN.{length, get_or, drop, drop_of_length-le}
 use lib.Seq.{drop-cons}
-use Rattle.text.specs.Bytes.{value_from, number, is_digit, digits}
-use Rattle.text.specs.LegalTexts.{among, digits_from, digits_in}
-use Rattle.std.proofs.Common.{Option, Some, None, MatchOption}
-use Rattle.text.proofs.Every.{on, off, end}
+use Rattle.text.specs.Bytes.{value_from, number, digits}
+use Rattle.text.specs.LegalTexts.{digits_from, digits_in}
+use Rattle.std.proofs.Common.{Option, Some, None, MatchOption, IfSome, is_some, ap}
 
 -- one byte more of a value in any base, and no more
 module _ (base nought n : ℕ) (xs : List ℕ) (i : ℕ) where
@@ -32,19 +30,11 @@ below_more n i d h k = rw (add-one, pow-succ') (omega arith)
 pub below_seven : (n i : ℕ) → n + 23 ≤ 23 * 10 ^ i → i ≤ 7 → n < 230000000
 below_seven n i h k = omega (arith, pow-le-pow_right {n = 10} (lit< tt) k)
 
--- digits that go on from n, one that is none of them, and the end
-module _ (n : ℕ) (xs : List ℕ) (i : ℕ) where
-  pub digit_more : i < length xs → is_digit (get_or xs i 0) ≡ true → digits_from n (drop i xs) ≡ digits_from (n * 10 + (get_or xs i 0 - 48)) (drop (i + 1) xs)
-  unfolding digits_from
-  digit_more h d = rw (on is_digit xs i h d, more 10 48 n xs i h)
-
-  pub no_digit : i < length xs → is_digit (get_or xs i 0) ≡ false → digits_from n (drop i xs) ≡ None
-  unfolding digits_from
-  no_digit h d = rw (off is_digit xs i h d)
-
-  pub digits_end : length xs ≤ i → digits_from n (drop i xs) ≡ Some n
-  unfolding digits_from
-  digits_end h = rw (end is_digit xs i h, no_more 10 48 n xs i h)
+-- what some bytes say, asked first whether they are digits
+pub said : (t : List ℕ) (d : Bool) (r : Option ℕ) (Q : ℕ → Type 0) → d ≡ digits t → is_some r ≡ d → IfSome r Q → ((n : ℕ) → Q n → n ≡ number t) → r ≡ digits_in t
+unfolding digits_from
+said t d (Some n) Q e f h g = rw (← e, ← f) (ap Some (g n h))
+said t d None Q e f h g = rw (← e, ← f)
 
 -- a test of the number that some bytes say, if they are digits
 pub if_digits : (p : ℕ → Bool) (t : List ℕ) (m : Option ℕ) (r : Bool) (Q : ℕ → Type 0) → m ≡ digits_in t → MatchOption m (r ≡ false) Q → ((n : ℕ) → Q n → r ≡ p n) → r ≡ (digits t && p (number t))
@@ -54,6 +44,3 @@ if_digits p t m r Q e h g = by (digits t) (rw e at h)
     by : (d : Bool) → MatchOption (cond d (Some (number t)) None) (r ≡ false) Q → r ≡ (d && p (number t))
     by true f = g _ f
     by false f = f
-
-pub among_last : (n a b c d : ℕ) → (n ≡ a → ⊥) → (n ≡ b → ⊥) → (n ≡ c → ⊥) → eqb n d ≡ among a b c d n
-among_last n a b c d p q r = rw (ne_eqb n a p, ne_eqb n b q, ne_eqb n c r)

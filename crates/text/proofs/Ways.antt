@@ -1,6 +1,6 @@
 -- What each way through a test of two halves says of the whole: x is what the code's first test answered, y its second. Assumes nothing.
 use mathlib.Core.Path.{◌≡◌, refl, sym}
-use mathlib.Core.Bool.{Bool, true, false, not, ◌&&◌, ◌||◌, beq, true≢false, false≢true}
+use mathlib.Core.Bool.{Bool, true, false, not, ◌&&◌, ◌||◌, beq, true≢false}
 
 module _ (x p : Bool) (e : x ≡ p) where
   pub or_holds : (q : Bool) → x ≡ true → x ≡ (p || q)
@@ -28,11 +28,6 @@ and_second false b e = absurd (true≢false (sym e))
 pub second_holds : (a b : Bool) → b ≡ true → (a || b) ≡ true
 second_holds true b e = refl
 second_holds false b e = e
-
-pub same_true : (a b : Bool) → a ≡ true → b ≡ beq a b
-same_true true true e = refl
-same_true true false e = refl
-same_true false b e = absurd (false≢true e)
 
 -- two answers that are the same are equal
 pub beq_true : (x y : Bool) → beq x y ≡ true → x ≡ y

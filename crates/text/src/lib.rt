@@ -7,7 +7,7 @@
 ghost use Rattle.std.specs.Bool.{beq};
 ghost use Rattle.std.specs.Prelude.{◌≡◌, ◌≤◌, ◌-◌, length, take};
 ghost use Rattle.text.specs.Bytes.{every, between, either, blank, number, run, to_last_non_blank};
-ghost use Rattle.text.specs.LegalTexts.{among, call_sign, allows, digits_in};
+ghost use Rattle.text.specs.LegalTexts.{among, in_call_sign, call_sign, allows, digits_in};
 
 // The texts that an element may hold where it is not blank.
 #[derive(Clone, Copy)]
@@ -34,18 +34,7 @@ pub enum LegalTexts {
 pub fn all_between(text: &[u8], lo: u8, hi: u8) -> bool
     ensures { result ≡ every (between lo hi) text.now }
 {
-    let mut i = 0;
-    while i < text.len() {
-        let b = text[i];
-        if b < lo {
-            return false;
-        }
-        if hi < b {
-            return false;
-        }
-        i += 1;
-    }
-    true
+    text.iter().all(|b| lo <= *b && *b <= hi)
 }
 
 // Is it blank over all of the columns, that is, missing?
@@ -59,7 +48,7 @@ pub fn is_blank(text: &[u8]) -> bool
 pub fn digit_of(b: u8) -> u32
     ensures { result ≡ b - 48 }
 {
-    if b < 48 { 0 } else { (b - 48) as u32 }
+    u32::from(b.saturating_sub(b'0'))
 }
 
 // The number that up to seven digits say.
@@ -67,11 +56,9 @@ pub fn number_of(text: &[u8]) -> u32
     requires { length text.now ≤ 7 }
     ensures { result ≡ number text.now }
 {
-    let mut n: u32 = 0;
-    let mut i = 0;
-    while i < text.len() {
-        n = n * 10 + digit_of(text[i]);
-        i += 1;
+    let mut n = 0;
+    for b in text {
+        n = n * 10 + u32::from(b.saturating_sub(b'0'));
     }
     n
 }
@@ -94,80 +81,53 @@ pub fn is_either(n: u32, a: u32, b: u32, c: u32, d: u32) -> bool
 pub fn same(a: bool, b: bool) -> bool
     ensures { result ≡ beq a b }
 {
-    if a { b } else { !b }
+    a == b
 }
 
 // Is the number one of four?
 pub fn is_among(n: u32, a: u32, b: u32, c: u32, d: u32) -> bool
     ensures { result ≡ among a b c d n }
 {
-    if n == a {
-        return true;
-    }
-    if n == b {
-        return true;
-    }
-    if n == c {
-        return true;
-    }
-    n == d
+    [a, b, c, d].contains(&n)
 }
 
-// A byte as a number.
-fn value(b: u8) -> u32
-    ensures { result ≡ b }
-{
-    b as u32
-}
-
-// The same, as wide as a word is.
+// A byte as a number as wide as a word is.
 pub fn byte(b: u8) -> u64
     ensures { (result ≡ b) × (result ≤ 255) }
 {
-    b as u64
+    u64::from(b)
 }
 
 // A number that columns say, as wide as a word is.
 pub fn wide(n: u32) -> u64
     ensures { result ≡ n }
 {
-    n as u64
+    u64::from(n)
 }
 
-// How many bytes at the front are from a to b or from c to d?
-fn front(text: &[u8], a: u32, b: u32, c: u32, d: u32) -> usize
-    ensures { result ≡ run (either a b c d) text.now }
+// How many characters of a call sign stand at the front?
+fn front(text: &[u8]) -> usize
+    ensures { result ≡ run in_call_sign text.now }
 {
-    let mut i = 0;
-    while i < text.len() {
-        if !is_either(value(text[i]), a, b, c, d) {
-            return i;
-        }
-        i += 1;
-    }
-    i
+    text.iter()
+        .take_while(|b| b.is_ascii_digit() || b.is_ascii_uppercase())
+        .count()
 }
 
 // Is it a call sign?
-#[tactic(auto, using(crate::proofs::Every::sign_short, crate::proofs::Every::sign_past, crate::proofs::Every::sign_rest))]
+#[tactic(auto, using(crate::proofs::Every::run_fits))]
 fn is_call_sign(text: &[u8]) -> bool
     ensures { result ≡ call_sign text.now }
 {
-    let n = front(text, 48, 57, 65, 90);
-    if n < 3 {
-        return false;
-    }
-    if text.len() < n {
-        return false;
-    }
-    is_blank(&text[n..])
+    let n = front(text);
+    3 <= n && is_blank(&text[n..])
 }
 
 // Is every byte a digit, or x?
 fn is_digit_or(text: &[u8], x: u8) -> bool
     ensures { result ≡ allows (LegalTexts.DigitOr x) text.now }
 {
-    front(text, 48, 57, value(x), value(x)) == text.len()
+    text.iter().all(|b| b.is_ascii_digit() || *b == x)
 }
 
 // The number that up to seven bytes say, if they are digits.
@@ -175,20 +135,7 @@ fn digits_in(text: &[u8]) -> Option<u32>
     requires { length text.now ≤ 7 }
     ensures { result ≡ digits_in text.now }
 {
-    let mut n: u32 = 0;
-    let mut i = 0;
-    while i < text.len() {
-        let b = text[i];
-        if b < 48 {
-            return None;
-        }
-        if 57 < b {
-            return None;
-        }
-        n = n * 10 + value(b - 48);
-        i += 1;
-    }
-    Some(n)
+    all_between(text, 48, 57).then(|| number_of(text))
 }
 
 // Are these digits whose number is from a to b?
@@ -216,6 +163,7 @@ fn is_one_of(text: &[u8], a: u32, b: u32, c: u32, d: u32) -> bool
 }
 
 // Is the text one of these texts?
+#[tactic(auto, unfolding(crate::specs::LegalTexts::allows))]
 pub fn is_one(texts: LegalTexts, text: &[u8]) -> bool
     requires { length text.now ≤ 7 }
     ensures { result ≡ allows texts text.now }
@@ -237,12 +185,10 @@ pub fn filled(text: &[u8]) -> usize
     ensures upper_bound { result ≤ length text.now }
     ensures text_value { take result text.now ≡ to_last_non_blank text.now }
 {
-    let mut n = text.len();
-    while 0 < n {
-        if text[n - 1] != 32 {
-            return n;
+    for n in (0..text.len()).rev() {
+        if text[n] != b' ' {
+            return n + 1;
         }
-        n -= 1;
     }
-    n
+    0
 }

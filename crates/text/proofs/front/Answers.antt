@@ -1,25 +1,16 @@
--- `text::front` meets its contract: the run is what was passed and the run of what is left. Assumes nothing.
-use Prim.Native.Nat.{ℕ}
-use Rattle.text.proofs.Every.{run_end, run_off, run_on}
-use Rattle.text.specs.Bytes.{either}
-use mathlib.Core.Bool.{Bool}
-use mathlib.Core.Path.{◌∙◌, ◌≡◌, ap, sym}
-use native.Mathlib.Omega.{arith}
+-- `text::front` meets its contract. Assumes nothing.
+use Rattle.std.proofs.Common.{◌∙◌, rules}
+use Rattle.std.proofs.lemmas.Iterator.{YieldsList-from_slice}
+use Rattle.std.proofs.lemmas.Iterator.Consumers.{count_from_yields_List}
+use Rattle.std.proofs.lemmas.Iterator.Search.{YieldsList-from_take_while}
+use Rattle.std.proofs.lemmas.List.Folds.{length-prefix_len}
+use Rattle.text.specs.LegalTexts.{in_call_sign}
+use Rattle.text.proofs.Every.{prefix_run}
+use borrow.Author.Tests.{tests}
 use Rattle.text.proofs.front.Goals as goal
 
--- what the test answers of the byte at i
-passed : (p : ℕ → Bool) {x y : ℕ} {t : Bool} → t ≡ p y → y ≡ x → t ≡ p x
-passed p e f = e ∙ ap p f
-
-pub returns-then-not-is_either : goal.returns-then-not-is_either
-returns-then-not-is_either c =
-    run_off (either _ _ _ _) _ _ c.loop-i.invariant.1 c.loop-i-test.true (sym (passed (either _ _ _ _) c.is_either.ensures c.value.ensures) ∙ c.if-not-is_either.true)
-
-pub loop-i-preserved : goal.loop-i-preserved
-loop-i-preserved c = (
-  omega arith,
-  run_on (either _ _ _ _) _ _ c.loop-i.invariant.1 c.loop-i-test.true (sym (passed (either _ _ _ _) c.is_either.ensures c.value.ensures) ∙ c.if-not-is_either.false),
-)
-
 pub returns : goal.returns
-returns c = run_end (either _ _ _ _) _ _ c.loop-i.invariant.1 c.loop-i-test.false
+returns c =
+    count_from_yields_List c.take_while.result _ c.count.ensures.ran
+    (YieldsList-from_take_while _ in_call_sign (YieldsList-from_slice c.args.text.now cc) c.take_while.ensures.closure c.take_while.ensures.done (λ x b q k. search (rules, tests)))
+    ∙ length-prefix_len in_call_sign c.args.text.now ∙ prefix_run _ _

@@ -1,21 +1,10 @@
 -- How long a month can be, whatever is known of it. Assumes nothing.
-use mathlib.Core.Path.{◌≡◌}
 use mathlib.Core.Bool.{Bool, true, false, cond}
 use Prim.Native.Nat.{ℕ, ◌≤◌}
 use native.Mathlib.Nat.{le_refl}
 use lib.Dec.{eqb, lit≤}
 use Rattle.text.specs.LegalTexts.{among}
 use Rattle.calendar.specs.Calendar.{last_day, widest_day}
-
--- the last day of a month that is not February, by whether it is one of the four
-module _ (leap : Bool) (month : ℕ) (other : eqb month 2 ≡ false) where
-  pub has_30 : among 4 6 9 11 month ≡ true → 30 ≡ last_day leap month
-  unfolding last_day
-  has_30 h = rw (other, h)
-
-  pub has_31 : among 4 6 9 11 month ≡ false → 31 ≡ last_day leap month
-  unfolding last_day
-  has_31 h = rw (other, h)
 
 -- a month has 28 to 31 days
 module _ (leap : Bool) (month : ℕ) where

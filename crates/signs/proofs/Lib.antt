@@ -1,2 +1,2 @@
--- The laws of signed numbers that the functions of this crate cite.
+-- The laws of signed numbers that the crates above cite.
 pub mod Signs

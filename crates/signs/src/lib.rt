@@ -21,17 +21,12 @@ pub fn is_negative(a: i64) -> bool
     a < 0
 }
 
-// How far it is from zero. The lowest number of all has no opposite, so one is added before the
-// sign is turned and once more after.
+// How far it is from zero.
 pub fn magnitude(a: i64) -> u64
     ensures value { result ≡ nat_abs a }
     ensures upper_bound { result ≤ 2 ^ 63 }
 {
-    if 0 <= a {
-        return a as u64;
-    }
-    let above = -(a + 1);
-    (above as u64) + 1
+    a.unsigned_abs()
 }
 
 // Are they the same?

@@ -1,14 +1,17 @@
 -- The laws of a row in which what is lost is blank: byte by byte, one column set, one step after another, and a run of columns one at a time. Assumes nothing.
 use mathlib.Core.Path.{◌≡◌, refl, sym, ap, ap₂, ◌∙◌}
 use mathlib.Core.Bool.{Bool, true, false, cond, not, ◌&&◌, ◌||◌}
-use mathlib.Core.List.{List, [], ◌∷◌}
+use mathlib.Core.List.{List, [], ◌∷◌, ◌++◌}
 use mathlib.Core.Logic.{◌⊎◌, inl, inr}
 use Prim.Native.Nat.{ℕ, zero, suc, ◌+◌, ◌-◌, ◌<◌, ◌≤◌}
 use native.Mathlib.Nat.{add-zero, add-suc, suc-add}
 use native.Mathlib.Omega.{arith}
 use borrow.Author.Tests.{le-leb, lt-leb, lt-ltb, le-ltb, not-true, not-false}
 use lib.Dec.{leb, ltb}
-use lib.ListN.{length, get_or, set}
+use lib.ListN.{length, get_or, set, take}
+use lib.Seq.{length-take-le}
+use borrow.Rule.Slice.PartMut.{put_mid, post_of}
+use Rattle.std.proofs.lemmas.List.{set-append_left, set-append_right, get_or_append_left, get_or-append_right}
 use Rattle.text.specs.Bytes.{between}
 use Rattle.element_sets.proofs.Ways.{up_to_or_past}
 use Rattle.layout.specs.Page.{start_of}
@@ -122,6 +125,28 @@ run_joined i n lo hi j b = by (up_to_or_past i j) (up_to_or_past (i + n) j) (up_
 
 pub run_on : (lo hi : ℕ) (xs row after : List ℕ) (i n : ℕ) → row ≡ blanked_by (run i n lo hi) xs → after ≡ blanked_by (run (i + n) 1 lo hi) row → after ≡ blanked_by (run i (n + 1) lo hi) xs
 run_on lo hi xs row after i n f g = then_by (run i n lo hi) (run (i + n) 1 lo hi) xs row after f g ∙ same_blanked _ (run i (n + 1) lo hi) 0 xs (λ j b l m. run_joined i n lo hi j b)
+
+-- a part of a row, put in its place: a byte of it, one that is set, and one more column of a run
+module _ (a k : ℕ) (xs ys : List ℕ) (j : ℕ) (l : j < length ys) (h : a + length ys ≤ length xs) where
+  before : length (take a xs) ≡ a
+  before = length-take-le a xs (omega arith)
+
+  part_byte : get_or (put_mid a k xs ys) (a + j) 0 ≡ get_or ys j 0
+  part_byte =
+      get_or-append_right (take a xs) (ys ++ post_of a k xs) a (a + j) 0 before (omega arith) ∙ ap (λ (i : ℕ). get_or (ys ++ post_of a k xs) i 0) (omega arith) ∙
+      get_or_append_left ys (post_of a k xs) 0 j l
+
+  part_set : (v : ℕ) → put_mid a k xs (set ys j v) ≡ set (put_mid a k xs ys) (a + j) v
+  part_set v =
+      sym (set-append_right (take a xs) (ys ++ post_of a k xs) a (a + j) v before (omega arith) ∙ ap (λ (i : ℕ). take a xs ++ set (ys ++ post_of a k xs) i v) (omega arith) ∙
+      ap (λ (zs : List ℕ). take a xs ++ zs) (set-append_left ys (post_of a k xs) j v l))
+
+  pub part_on : (lo hi : ℕ) → put_mid a k xs ys ≡ blanked_by (run a j lo hi) xs → (x : Bool) → x ≡ between lo hi (get_or ys j 0) → (v : ℕ) → v ≡ cond x 32 (get_or ys j 0) →
+      put_mid a k xs (set ys j v) ≡ blanked_by (run a (j + 1) lo hi) xs
+  part_on lo hi f x p v q =
+      let whole : length (put_mid a k xs ys) ≡ length xs = ap length f ∙ blanked_length (run a j lo hi) 0 xs in
+      run_on lo hi xs (put_mid a k xs ys) _ a j f
+      (part_set v ∙ one_set lo hi (put_mid a k xs ys) (a + j) (omega (arith, whole)) x (p ∙ ap (between lo hi) (sym part_byte)) v (q ∙ ap (cond x 32) (sym part_byte)))
 
 -- the columns of some elements are such a run
 pub as_run : (first last lo hi : ℕ) → first ≤ last → (xs : List ℕ) (i n : ℕ) → i ≡ start_of first → n ≡ start_of (last + 1) - i → blanked_by (run i n lo hi) xs ≡ blanked (some first last lo hi) xs

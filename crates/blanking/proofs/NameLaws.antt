@@ -1,18 +1,16 @@
 -- Words of bits from the bytes of a record: the bits of some elements, and of nothing else. Assumes nothing.
-use mathlib.Core.Path.{◌≡◌, refl, sym, ap, ◌∙◌}
+use mathlib.Core.Path.{◌≡◌, sym, ap, ◌∙◌}
 use mathlib.Core.Bool.{Bool, true, false, cond, not, ◌||◌}
-use mathlib.Core.List.{List, [], ◌∷◌}
+use mathlib.Core.List.{List}
 use mathlib.Core.Logic.{inl, inr}
-use Prim.Native.Nat.{ℕ, ◌+◌, ◌*◌, ◌^◌, ◌<◌, ◌≤◌}
+use Prim.Native.Nat.{ℕ, ◌+◌, ◌*◌, ◌^◌, ◌%◌, ◌<◌, ◌≤◌}
 use native.Mathlib.Nat.{le_refl}
 use native.Mathlib.Numerals.{add-one}
 use native.Mathlib.Omega.{arith}
-use borrow.Author.Tests.{eqb-true, not-true, not-false}
+use Rattle.std.proofs.lemmas.Nat.{one_shl}
+use borrow.Author.Tests.{not-true, not-false}
 use lib.Bits.{bit_or, or_zero_r}
-use lib.Dec.{eqb}
-use lib.ListN.{get_or}
 use Rattle.text.specs.Bytes.{between}
-use Rattle.text.proofs.Below.{passes_below}
 use Rattle.element_sets.specs.ElementSets.{bit, bits}
 use Rattle.element_sets.proofs.Joined.{or_words, placed_word}
 use Rattle.element_sets.proofs.Listed.{same_word, no_word}
@@ -22,16 +20,9 @@ use Rattle.blanking.specs.LostBytes.{Spot, in_element, some, named}
 use Rattle.blanking.proofs.Steps.{within, off}
 
 -- a word grows by a bit that is set or not
-pub word_on : (f : ℕ → Bool) (k n : ℕ) (w : ℕ) → w ≡ bits f k n → (x : Bool) → x ≡ f (k + n) → (mask : ℕ) → mask ≡ 2 ^ n → (v : ℕ) → v ≡ cond x mask 0 → bit_or w v ≡ bits f k (n + 1)
-word_on f k n w g true h mask m v q = rw (g, q, m, add-one n) (word_set f k n (sym h))
-word_on f k n w g false h mask m v q = rw (g, q, or_zero_r, add-one n) (word_not_set f k n (sym h))
-
--- the masks are the powers of two
-abbrev powers : List ℕ
-powers = 1 ∷ 2 ∷ 4 ∷ 8 ∷ 16 ∷ 32 ∷ 64 ∷ 128 ∷ []
-
-pub mask : (k : ℕ) → k < 8 → get_or powers k 0 ≡ 2 ^ k
-mask k h = eqb-true _ _ (passes_below 8 (λ j. eqb (get_or powers j 0) (2 ^ j)) refl k h)
+pub word_on : (f : ℕ → Bool) (k n : ℕ) (w : ℕ) → w ≡ bits f k n → (x : Bool) → x ≡ f (k + n) → (v : ℕ) → v ≡ cond x ((1 * 2 ^ n) % 2 ^ 8) 0 → n < 8 → bit_or w v ≡ bits f k (n + 1)
+word_on f k n w g true h v q l = rw (g, q, one_shl n 8 l, add-one n) (word_set f k n (sym h))
+word_on f k n w g false h v q l = rw (g, q, or_zero_r, add-one n) (word_not_set f k n (sym h))
 
 module _ (xs : List ℕ) (lo hi : ℕ) where
   -- the test of the first byte of an element

@@ -19,18 +19,14 @@ use layout::{Edition, widths};
 fn is_fourth(edition: Edition) -> bool
     ensures { result ≡ is_fourth edition }
 {
-    match edition {
-        Edition::One => false,
-        Edition::Three => false,
-        Edition::Four => true,
-    }
+    edition == Edition::Four
 }
 
 // Is one of the two edition 4 and the other not?
 fn is_change(from: Edition, to: Edition) -> bool
     ensures { result ≡ changes from to }
 {
-    !text::same(is_fourth(from), is_fourth(to))
+    is_fourth(from) != is_fourth(to)
 }
 
 // Does the record leave edition 4?
@@ -60,11 +56,8 @@ fn blank_run(row: &mut [u8], at: usize, n: usize, low: u8, high: u8)
     requires { (at + n ≤ length row.old) × (low ≤ high) }
     ensures { row.new ≡ blanked_by (run at n low high) row.old }
 {
-    let mut k = 0;
-    while k < n {
-        let b = row[at + k];
-        row[at + k] = left(b, is_in(b, low, high));
-        k += 1;
+    for b in &mut row[at..at + n] {
+        *b = left(*b, is_in(*b, low, high));
     }
 }
 

@@ -25,7 +25,7 @@ fn moved(w: u8, by: u64) -> u64
     requires { by ≤ 56 }
     ensures { result ≡ w * 2 ^ by }
 {
-    text::byte(w) << by
+    u64::from(w) << by
 }
 
 // The bit of an element whose first byte is one from low to high.
@@ -45,12 +45,9 @@ fn name_eight(line: &[u8], e: usize, low: u8, high: u8) -> u8
     requires { ((1 ≤ e) × (e ≤ 94)) × ((start_of (e + 8) ≤ length line.now) × (low ≤ high)) }
     ensures { result ≡ bits (λ k. between low high (first_byte k line.now)) e 8 }
 {
-    let masks = [1u8, 2, 4, 8, 16, 32, 64, 128];
     let mut w: u8 = 0;
-    let mut k = 0;
-    while k < 8 {
-        w = w | bit(is_in(page::first_byte(line, e + k), low, high), masks[k]);
-        k += 1;
+    for k in 0..8 {
+        w |= bit(is_in(page::first_byte(line, e + k), low, high), 1 << k);
     }
     w
 }

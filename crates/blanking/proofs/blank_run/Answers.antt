@@ -1,39 +1,33 @@
 -- `blanking::blank_run` meets its contract. Assumes nothing.
 use mathlib.Core.Path.{◌≡◌, refl, ap, ◌∙◌}
-use Prim.Native.Nat.{ℕ}
-use native.Mathlib.Omega.{arith}
+use Prim.Native.Nat.{ℕ, ◌+◌, ◌-◌, ◌≤◌}
+use mathlib.Core.List.{List}
 use lib.ListN.{length}
+use native.Mathlib.Omega.{arith}
+use borrow.Rule.Slice.PartMut.{mid_of, mid_len, put_same}
 use Rattle.blanking.specs.LostBytes.{run, blanked_by}
-use Rattle.blanking.proofs.Blanked.{blanked_length, one_set, no_run, run_on}
-use Rattle.blanking.proofs.blank_run.Goals.{In-loop-k}
+use Rattle.blanking.proofs.Blanked.{no_run, part_on}
 use Rattle.blanking.proofs.blank_run.Goals as goal
 
--- the row is as long as it was
-long : (c : In-loop-k) → length c.loop-k.row ≡ length c.args.row.now
-long c = ap length c.loop-k.invariant.1 ∙ blanked_length _ 0 _
+pub loop-b-init : goal.loop-b-init
+loop-b-init c =
+    let args = c.args in
+    put_same args.at _ args.row.now ∙ no_run args.low args.high args.row.now args.at 0 refl
 
-pub loop-k-init : goal.loop-k-init
-loop-k-init c = (omega arith, no_run c.args.low c.args.high _ _ 0 refl)
+-- so many columns are in the run
+count : (at n : ℕ) (row : List ℕ) → at + n ≤ length row → length (mid_of at (at + n - at) row) ≡ n
+count at n row h = mid_len at (at + n) row h ∙ omega arith
 
-pub bounds-row-at : goal.bounds-row-at
-bounds-row-at c = omega (arith, long (goal.at.bounds-row-at c).In-loop-k)
-
-pub bounds-row-at-in-loop-k : goal.bounds-row-at-in-loop-k
-bounds-row-at-in-loop-k c = omega (arith, long (goal.at.bounds-row-at-in-loop-k c).In-loop-k)
-
-pub loop-k-preserved : goal.loop-k-preserved
-loop-k-preserved c =
-    let loop = c.loop-k in (
-      omega arith,
-      run_on c.args.low c.args.high _ _ _ _ _ loop.invariant.1 (one_set c.args.low c.args.high _ _ (omega (arith, long (goal.at.loop-k-preserved c).In-loop-k)) _ c.is_in.ensures _ c.left.ensures),
-    )
-
-pub shape_of-row : goal.shape_of-row
-shape_of-row c = ap length c.loop-k.invariant.1 ∙ blanked_length _ 0 _
+pub loop-b-preserved : goal.loop-b-preserved
+loop-b-preserved c =
+    let args = c.args in
+    let loop = c.loop-b in
+    let all = count args.at args.n args.row.now c.requires.0 in
+    part_on args.at _ args.row.now _ loop.b-index (omega arith) (omega (arith, all, loop.auto.b-items)) args.low args.high loop.invariant _ c.is_in.ensures _ c.left.ensures
 
 pub returns : goal.returns
 returns c =
-    let loop = c.loop-k in
+    let loop = c.loop-b in
     let args = c.args in
-    let all : loop.k ≡ args.n = omega arith in
-    loop.invariant.1 ∙ ap (λ (n : ℕ). blanked_by (run args.at n args.low args.high) args.row.now) all
+    let all : loop.b-index ≡ args.n = omega (arith, count args.at args.n args.row.now c.requires.0, loop.auto.b-index-end) in
+    loop.invariant ∙ ap (λ (n : ℕ). blanked_by (run args.at n args.low args.high) args.row.now) all

@@ -1,10 +1,10 @@
 use mathlib.Core.Path.{◌≡◌}
-use Prim.Native.Nat.{◌-◌, ◌≤◌}
+use Prim.Native.Nat.{◌+◌, ◌-◌}
+use borrow.Rule.Slice.PartMut.{put_mid}
 use Rattle.blanking.specs.LostBytes.{run, blanked_by}
 use Rattle.blanking.proofs.blank_run.Given as goal
 
-abbrev pub invariant-loop-k : goal.invariant-loop-k
-invariant-loop-k l = (l.k ≤ l.n) × (l.row ≡ blanked_by (run l.at l.k l.low l.high) l.initial.row)
-
-abbrev pub decreases-loop-k : goal.decreases-loop-k
-decreases-loop-k l = l.n - l.k
+-- the row with the columns so far in their place
+abbrev pub invariant-loop-b : goal.invariant-loop-b
+invariant-loop-b l =
+    put_mid l.at (l.at + l.n - l.at) l.fn.row l.b-items ≡ blanked_by (run l.at l.b-index l.low l.high) l.fn.row

@@ -4,4 +4,4 @@ use lib.Pow.{shl_exact}
 use Rattle.blanking.proofs.names.moved.Goals as goal
 
 pub returns : goal.returns
-returns c = rw c.byte.ensures.0 (shl_exact 8 c.args.by 64 (omega arith) (omega arith))
+returns c = rw c.from.ensures (shl_exact 8 c.args.by 64 (omega arith) (omega arith))

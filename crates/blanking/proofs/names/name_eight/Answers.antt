@@ -6,12 +6,12 @@ use Rattle.text.specs.Bytes.{between}
 use Rattle.element_sets.specs.ElementSets.{bits}
 use Rattle.layout.specs.Page.{first_byte}
 use Rattle.layout.proofs.Columns.{start_next, start_rises, some_column}
-use Rattle.blanking.proofs.NameLaws.{word_on, mask}
+use Rattle.blanking.proofs.NameLaws.{word_on}
 use Rattle.blanking.proofs.names.name_eight.Goals as goal
 
 pub loop-k-init : goal.loop-k-init
 unfolding bits
-loop-k-init c = (omega arith, refl)
+loop-k-init c = refl
 
 pub first_byte-requires : goal.first_byte-requires
 first_byte-requires c =
@@ -20,14 +20,12 @@ first_byte-requires c =
 
 pub loop-k-preserved : goal.loop-k-preserved
 loop-k-preserved c =
-    let args = c.args in (
-      omega arith,
-      word_on (λ j. between args.low args.high (first_byte j args.line.now)) args.e _ _ c.loop-k.invariant.1 _
-          (c.is_in.ensures ∙ ap (between args.low args.high) c.first_byte.ensures) _ (mask _ c.loop-k-test.true) _ c.bit-w.ensures,
-    )
+    let args = c.args in
+    word_on (λ j. between args.low args.high (first_byte j args.line.now)) args.e _ _ c.loop-k.invariant _
+    (c.is_in.ensures ∙ ap (between args.low args.high) c.first_byte.ensures) _ c.bit-w.ensures (omega arith)
 
 pub returns : goal.returns
 returns c =
     let args = c.args in
     let all : c.loop-k.k ≡ 8 = omega arith in
-    c.loop-k.invariant.1 ∙ ap (bits (λ j. between args.low args.high (first_byte j args.line.now)) args.e) all
+    c.loop-k.invariant ∙ ap (bits (λ j. between args.low args.high (first_byte j args.line.now)) args.e) all

@@ -1,12 +1,8 @@
 use mathlib.Core.Path.{◌≡◌}
-use Prim.Native.Nat.{◌-◌, ◌≤◌}
 use Rattle.text.specs.Bytes.{between}
 use Rattle.element_sets.specs.ElementSets.{bits}
 use Rattle.layout.specs.Page.{first_byte}
 use Rattle.blanking.proofs.names.name_eight.Given as goal
 
 abbrev pub invariant-loop-k : goal.invariant-loop-k
-invariant-loop-k l = (l.k ≤ 8) × (l.w ≡ bits (λ j. between l.low l.high (first_byte j l.line)) l.e l.k)
-
-abbrev pub decreases-loop-k : goal.decreases-loop-k
-decreases-loop-k l = 8 - l.k
+invariant-loop-k l = l.w ≡ bits (λ j. between l.low l.high (first_byte j l.line)) l.e l.k

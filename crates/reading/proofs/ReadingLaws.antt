@@ -6,7 +6,7 @@ use mathlib.Core.Bool.{Bool, true, false, cond, ◌||◌}
 use mathlib.Core.List.{List}
 use Prim.Native.Nat.{ℕ, ◌+◌, ◌-◌, ◌%◌, ◌≤◌, ◌<◌}
 use native.Mathlib.Omega.{arith}
-use borrow.Author.Tests.{eq-eqb, ne_eqb, eqb-true, eqb-false, le-leb, lt-leb}
+use borrow.Author.Tests.{eq-eqb, ne_eqb, eqb-true, eqb-false}
 use native.Mathlib.Nat.{le_refl, eq-or-lt_of_le}
 use lib.Dec.{eqb, leb, lit≤}
 use lib.IntN.{ℤ}
@@ -27,17 +27,6 @@ use Rattle.places.specs.declared.Place.{Place}
 use Rattle.places.specs.Places.{place_at}
 use Rattle.signs.specs.Signed.{signed}
 use Rattle.reading.specs.Readings.{code_of, plain, below, kind_of, temperature, departure, place_of, lead, item_of, reading_of}
-
--- PPPP below 1000, and any other number
-module _ (e n m : ℕ) (f : m ≡ n) where
-  pub other_code : (e ≡ 20 → ⊥) → m ≡ code_of e n
-  other_code h = f ∙ rw (ne_eqb e 20 h)
-
-  pub low_pressure : e ≡ 20 → n ≤ 999 → m + 10000 ≡ code_of e n
-  low_pressure h l = ap (λ (k : ℕ). k + 10000) f ∙ rw (eq-eqb e 20 h, le-leb n 999 l)
-
-  pub high_pressure : e ≡ 20 → 999 < n → m ≡ code_of e n
-  high_pressure h l = f ∙ rw (eq-eqb e 20 h, lt-leb n 999 l)
 
 -- an element by itself
 module _ (e : ℕ) (t : List ℕ) (x : Bool) (p : x ≡ blank t) where

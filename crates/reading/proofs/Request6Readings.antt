@@ -14,7 +14,7 @@ use Rattle.reading.specs.declared.Reading.TheVariants.{Missing}
 use Rattle.reading.specs.declared.Readings.{Readings}
 use Rattle.reading.specs.Answers.{read_after, read_as, read_of}
 use Rattle.reading.specs.Fits.{Fits}
-use Rattle.reading.proofs.EntryLaws.{entries_long, entry, held_next, holding}
+use Rattle.reading.proofs.EntryLaws.{entries_long, held_next, holding}
 use Rattle.reading.proofs.Demand2Readings.{reads_each, reads_refused}
 
 -- the answer is the check's
@@ -54,8 +54,8 @@ only_one xs a b f g = same_answer a.answer refl
     -- entries that read the same are the same
     row : ((e : ℕ) → 1 ≤ e → e ≤ 101 → read_as a.entries e ≡ read_as b.entries e) → a ≡ b
     row h =
-        let es : a.entries ≡ b.entries = ext_get_or (entry Missing) a.entries b.entries (f.full ∙ sym g.full)
-        (λ k l. ap entry (held_next a.entries k ∙ h (1 + k) (omega arith) (omega (arith, f.full)) ∙ sym (held_next b.entries k))) in
+        let es : a.entries ≡ b.entries = ext_get_or Missing a.entries b.entries (f.full ∙ sym g.full)
+        (λ k l. held_next a.entries k ∙ h (1 + k) (omega arith) (omega (arith, f.full)) ∙ sym (held_next b.entries k)) in
         ap (λ (v : Answer). holding v a.entries) verdict ∙ ap (holding b.answer) es
 
     same_answer : (v : Answer) → a.answer ≡ v → a ≡ b

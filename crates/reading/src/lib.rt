@@ -37,43 +37,29 @@ pub enum Reading {
     At(Place),
 }
 
-// What one element reads as. (A struct that holds an array holds one of structs.)
-#[derive(Clone, Copy)]
-pub struct Entry {
-    pub reading: Reading,
-}
-
 // What reading a record answers: its edition, and an entry for each of the 101 elements, the first for
 // element 1; or the refusal, and then every entry is missing.
 #[derive(Clone, Copy)]
 pub struct Readings {
     pub answer: Answer,
-    pub entries: [Entry; ELEMENTS],
+    pub entries: [Reading; ELEMENTS],
 }
 
 // Does the element always read as a text?
 fn is_always_text(e: usize) -> bool
     ensures { result ≡ is_text e }
 {
-    match e {
-        42 => true,
-        43 => true,
-        44 => true,
-        _ => false,
-    }
+    matches!(e, 42 | 43 | 44)
 }
 
 // The code that the number of element e says: PPPP in tenths.
 fn code_of(e: usize, n: u32) -> u64
     ensures { result ≡ code_of e n }
 {
-    if e != 20 {
-        return text::wide(n);
+    if e == 20 && n <= 999 {
+        return u64::from(n) + 10000;
     }
-    if n <= 999 {
-        return text::wide(n) + 10000;
-    }
-    text::wide(n)
+    u64::from(n)
 }
 
 // The reading of an element by itself.
@@ -84,10 +70,7 @@ fn plain_of(e: usize, text: &[u8]) -> Reading
     if text::is_blank(text) {
         return Reading::Missing;
     }
-    if !text::all_between(text, 48, 57) {
-        return Reading::Text(numerals::word_of(text));
-    }
-    if is_always_text(e) {
+    if !text::all_between(text, b'0', b'9') || is_always_text(e) {
         return Reading::Text(numerals::word_of(text));
     }
     Reading::Code(code_of(e, text::number_of(text)))
@@ -99,9 +82,9 @@ fn column_of(b: u8) -> Reading
     ensures { result ≡ plain 1 (b ∷ []) }
 {
     let other = strays(b, b'0', b'9');
-    let code = text::wide(text::digit_of(b));
-    let letter = b as u64;
-    if b == 32 {
+    let code = u64::from(text::digit_of(b));
+    let letter = u64::from(b);
+    if b == b' ' {
         return Reading::Missing;
     }
     if other != 0 {
@@ -140,7 +123,7 @@ fn temperature_of(sign: &[u8], value: &[u8]) -> Reading
     let s = text::number_of(sign);
     let is_below = text::is_among(s, 1, 2, 6, 7);
     Reading::Amount(
-        signs::signed_of(is_below, text::wide(text::number_of(value))),
+        signs::signed_of(is_below, u64::from(text::number_of(value))),
         kind_of(s),
     )
 }
@@ -155,7 +138,7 @@ fn departure_of(text: &[u8]) -> Reading
     }
     let n = text::number_of(text);
     Reading::Amount(
-        signs::signed_of(100 <= n, text::wide(n % 100)),
+        signs::signed_of(100 <= n, u64::from(n % 100)),
         Kind::Measured,
     )
 }
@@ -188,8 +171,7 @@ pub fn lead_of(e: usize) -> usize
     ensures { result ≡ lead e }
 {
     match e {
-        7 => 6,
-        8 => 6,
+        7 | 8 => 6,
         17 => 16,
         19 => 18,
         29 => 28,
@@ -202,26 +184,14 @@ pub fn lead_of(e: usize) -> usize
 pub fn is_sign(e: usize) -> bool
     ensures { result ≡ is_sign e }
 {
-    match e {
-        16 => true,
-        18 => true,
-        28 => true,
-        50 => true,
-        _ => false,
-    }
+    matches!(e, 16 | 18 | 28 | 50)
 }
 
 // Is it a temperature, whose sign stands before it?
 pub fn is_temperature(e: usize) -> bool
     ensures { result ≡ is_temperature e }
 {
-    match e {
-        17 => true,
-        19 => true,
-        29 => true,
-        51 => true,
-        _ => false,
-    }
+    matches!(e, 17 | 19 | 29 | 51)
 }
 
 // Do others share the reading that begins with the element?
@@ -285,47 +255,31 @@ pub fn read_after(answer: Answer, line: &[u8]) -> Readings
 {
     let mut all = Readings {
         answer: answer,
-        entries: [Entry {
-            reading: Reading::Missing,
-        }; ELEMENTS],
+        entries: [Reading::Missing; ELEMENTS],
     };
-    match answer {
-        Answer::Accepted(edition) => {
-            let last = edition.last();
-            let mut at = 0;
-            let mut e = 1;
-            while e <= last {
-                let k = e - 1;
-                let next = e + 1;
-                if is_single(e) {
-                    all.entries[k] = Entry {
-                        reading: column_of(line[at]),
-                    };
-                    at += 1;
-                    e = next;
+    if let Answer::Accepted(edition) = answer {
+        let last = edition.last();
+        let mut at = 0;
+        for e in 1..last + 1 {
+            let k = e - 1;
+            if is_single(e) {
+                all.entries[k] = column_of(line[at]);
+                at += 1;
+            } else {
+                let end = at + width_of(e);
+                let lead = lead_of(e);
+                if lead != e {
+                    all.entries[k] = all.entries[lead - 1];
+                } else if is_leading(e) {
+                    all.entries[k] = item_at(edition, line, e, at);
                 } else {
-                    let end = at + width_of(e);
-                    let lead = lead_of(e);
-                    if lead != e {
-                        let entry = all.entries[lead - 1];
-                        all.entries[k] = entry;
-                    } else if is_leading(e) {
-                        all.entries[k] = Entry {
-                            reading: item_at(edition, line, e, at),
-                        };
-                    } else {
-                        all.entries[k] = Entry {
-                            reading: alone_of(e, &line[at..end]),
-                        };
-                    }
-                    at = end;
-                    e = next;
+                    all.entries[k] = alone_of(e, &line[at..end]);
                 }
+                at = end;
             }
-            all
         }
-        Answer::Refused(_) => all,
     }
+    all
 }
 
 // Checks a record and reads it: the refusal, or its edition and all its readings. Takes any bytes.

@@ -14,8 +14,7 @@ use Rattle.reading.specs.declared.Reading.{Reading}
 use Rattle.reading.specs.declared.Reading.TheVariants.{Missing, Code, Text, Amount, At}
 use Rattle.signs.specs.Signed.{signed}
 use Rattle.signs.proofs.Signs.{rejoined}
-use Rattle.spelling.specs.declared.Parts.{Parts}
-use Rattle.spelling.specs.Same.{kind_number, parts_of, same_parts, same}
+use Rattle.spelling.specs.Same.{Parts, kind_number, parts_of, same_parts, same}
 
 abbrev kinds : List Kind
 kinds = Measured ∷ Computed ∷ IcedMeasured ∷ IcedComputed ∷ []

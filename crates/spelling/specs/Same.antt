@@ -6,7 +6,6 @@ use Rattle.reading.specs.declared.Kind.TheVariants.{Measured, Computed, IcedMeas
 use Rattle.reading.specs.declared.Reading.{Reading}
 use Rattle.reading.specs.declared.Reading.TheVariants.{Missing, Code, Text, Amount, At}
 use Rattle.signs.specs.Signed.{negative}
-use Rattle.spelling.specs.declared.Parts.{Parts}
 
 abbrev pub kind_number : Kind → ℕ
 kind_number Measured = 0
@@ -14,7 +13,15 @@ kind_number Computed = 1
 kind_number IcedMeasured = 2
 kind_number IcedComputed = 3
 
--- the parts of a reading, as numbers
+-- a reading taken apart into numbers, so that two can be compared
+pub record Parts : Type 0 where
+  pub case : ℕ
+  pub below : Bool
+  pub first : ℕ
+  pub second : ℕ
+  pub third : ℕ
+
+-- the parts of a reading
 unfoldable pub parts_of : Reading → Parts
 parts_of Missing = record { case = 0; below = false; first = 0; second = 0; third = 0 }
 parts_of (Code n) = record { case = 1; below = false; first = n; second = 0; third = 0 }

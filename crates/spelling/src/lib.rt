@@ -3,104 +3,24 @@
 // A reading and an element give the numeral of the element's columns: an amount is written in those of its
 // sign and of its temperature, a place in those of its digit, latitude and longitude. It is spelled as well
 // as it can be, whatever the reading; whether the text is legal and reads as the reading is asked
-// afterwards, by comparing the two readings part by part.
+// afterwards, by comparing the two readings.
 #![tactic(auto)]
 
 ghost use Rattle.std.specs.Prelude.{◌≡◌, cond, ◌≤◌, ◌<◌, ◌+◌, ◌^◌, length};
 ghost use Rattle.layout.specs.Editions.{longest_record, last_element};
-ghost use Rattle.reading.specs.Answers.{readings};
 ghost use Rattle.spelling.specs.Spelled.{sign_digit, amount_numeral, place_numeral, numeral_for, row_for};
-ghost use Rattle.spelling.specs.Same.{kind_number, parts_of, same};
+ghost use Rattle.spelling.specs.Same.{same};
 
 use layout::{ELEMENTS, Edition, widths};
 use numerals::Numeral;
 use places::Place;
-use reading::{Entry, Kind, Reading};
-
-// A reading taken apart into numbers, so that two can be compared.
-#[derive(Clone, Copy)]
-pub struct Parts {
-    pub case: u64,
-    pub below: bool,
-    pub first: u64,
-    pub second: u64,
-    pub third: u64,
-}
-
-// The number of a kind, by which two are compared.
-pub fn kind_number(kind: Kind) -> u64
-    ensures { result ≡ kind_number kind }
-{
-    match kind {
-        Kind::Measured => 0,
-        Kind::Computed => 1,
-        Kind::IcedMeasured => 2,
-        Kind::IcedComputed => 3,
-    }
-}
-
-// The parts of a reading.
-pub fn parts_of(reading: Reading) -> Parts
-    ensures { result ≡ parts_of reading }
-{
-    match reading {
-        Reading::Missing => Parts {
-            case: 0,
-            below: false,
-            first: 0,
-            second: 0,
-            third: 0,
-        },
-        Reading::Code(n) => Parts {
-            case: 1,
-            below: false,
-            first: n,
-            second: 0,
-            third: 0,
-        },
-        Reading::Text(n) => Parts {
-            case: 2,
-            below: false,
-            first: n,
-            second: 0,
-            third: 0,
-        },
-        Reading::Amount(a, kind) => Parts {
-            case: 3,
-            below: signs::is_negative(a),
-            first: signs::magnitude(a),
-            second: kind_number(kind),
-            third: 0,
-        },
-        Reading::At(place) => Parts {
-            case: 4,
-            below: signs::is_negative(place.latitude),
-            first: signs::magnitude(place.latitude),
-            second: place.longitude,
-            third: place.digit,
-        },
-    }
-}
+use reading::{Kind, Reading};
 
 // Are two readings the same in every part?
 pub fn is_same(a: Reading, b: Reading) -> bool
     ensures { result ≡ same a b }
 {
-    let p = parts_of(a);
-    let q = parts_of(b);
-    if p.case != q.case {
-        return false;
-    }
-    if !text::same(p.below, q.below) {
-        return false;
-    }
-    if p.first != q.first {
-        return false;
-    }
-    if p.second != q.second {
-        return false;
-    }
-    p.third == q.third
+    a == b
 }
 
 // The sign of an amount: 0 and 1 measured, 5 and 6 computed, 2 and 7 iced.
@@ -124,11 +44,12 @@ fn departure_number(below: bool, n: u64) -> u64
 }
 
 // What is written for an amount in the columns of element e.
+#[tactic(auto, using(layout::proofs::PartLaws::departure_is), unfolding(crate::specs::Spelled::amount_numeral))]
 fn amount_numeral(e: usize, a: i64, kind: Kind) -> Numeral
     ensures { result ≡ amount_numeral e a kind }
 {
-    let below = signs::is_negative(a);
-    let n = signs::magnitude(a);
+    let below = a < 0;
+    let n = a.unsigned_abs();
     if reading::is_sign(e) {
         return Numeral::digits(sign_digit(below, kind));
     }
@@ -142,6 +63,7 @@ fn amount_numeral(e: usize, a: i64, kind: Kind) -> Numeral
 }
 
 // What is written for a place in the columns of element e.
+#[tactic(auto, unfolding(crate::specs::Spelled::place_numeral))]
 fn place_numeral(edition: Edition, e: usize, place: Place) -> Numeral
     ensures { result ≡ place_numeral edition e place }
 {
@@ -154,6 +76,7 @@ fn place_numeral(edition: Edition, e: usize, place: Place) -> Numeral
 }
 
 // What is written for a reading in the columns of element e.
+#[tactic(auto, unfolding(crate::specs::Spelled::numeral_for))]
 fn numeral_for(edition: Edition, e: usize, reading: Reading) -> Numeral
     ensures value { result ≡ numeral_for edition e reading }
     ensures base_nonzero { (0 < result.base) × (result.nought + result.base ≤ 256) }
@@ -168,19 +91,15 @@ fn numeral_for(edition: Edition, e: usize, reading: Reading) -> Numeral
 }
 
 // Spells every reading into its element's columns, all 101 elements.
-pub fn put_all(edition: Edition, entries: [Entry; ELEMENTS], row: &mut [u8])
+pub fn put_all(edition: Edition, entries: [Reading; ELEMENTS], row: &mut [u8])
     requires { length row.old ≡ longest_record }
-    ensures { row.new ≡ row_for edition (readings entries) 1 last_element }
+    ensures { row.new ≡ row_for edition entries 1 last_element }
 {
     let mut at = 0;
-    let mut e = 1;
-    while e <= ELEMENTS {
+    for e in 1..ELEMENTS + 1 {
         let width = widths::width_of(e);
         let k = reading::lead_of(e) - 1;
-        let entry = entries[k];
-        let r = entry.reading;
-        numerals::put(row, at, width, numeral_for(edition, e, r));
+        numerals::put(row, at, width, numeral_for(edition, e, entries[k]));
         at += width;
-        e += 1;
     }
 }

@@ -14,4 +14,4 @@ returns-then-is_blank-2 c = no_value _ _ _ c.is_blank.ensures c.if-is_blank.fals
 pub returns : goal.returns
 returns c =
     is_temperature_lem _ _ _ c.is_blank.ensures c.if-is_blank.false _ c.is_blank-2.ensures c.if-is_blank-2.false _ _ _ _ _ c.number_of-s.ensures c.is_among-is_below.ensures
-    (c.wide.ensures ∙ c.number_of.ensures) (to_z-of_z {w = w64} {z = c.signed_of.result} (record { sfits = c.signed_of.type_inv }) ∙ c.signed_of.ensures) c.kind_of.ensures
+    (c.from.ensures ∙ c.number_of.ensures) (to_z-of_z {w = w64} {z = c.signed_of.result} (record { sfits = c.signed_of.type_inv }) ∙ c.signed_of.ensures) c.kind_of.ensures

@@ -1,6 +1,5 @@
-use Prim.Native.Nat.{◌+◌, ◌-◌, ◌≤◌}
+use Prim.Native.Nat.{◌+◌, ◌-◌}
 use Rattle.layout.specs.Page.{start_of}
-use Rattle.reading.specs.Answers.{readings}
 use Rattle.spelling.specs.Spelled.{row_for}
 use lib.ListN.{length, take}
 use mathlib.Core.List.{◌++◌}
@@ -9,7 +8,4 @@ use Rattle.spelling.proofs.put_all.Given as goal
 
 abbrev pub invariant-loop-e : goal.invariant-loop-e
 invariant-loop-e l =
-    (length l.row ≡ 159) × ((l.at ≡ start_of l.e) × ((1 ≤ l.e) × ((l.e ≤ 102) × (take l.at l.row ++ row_for l.edition (readings l.entries) l.e (101 + 1 - l.e) ≡ row_for l.edition (readings l.entries) 1 101))))
-
-abbrev pub decreases-loop-e : goal.decreases-loop-e
-decreases-loop-e l = 101 + 1 - l.e
+    (length l.row ≡ 159) × ((l.at ≡ start_of l.e) × (take l.at l.row ++ row_for l.edition l.entries l.e (101 + 1 - l.e) ≡ row_for l.edition l.entries 1 101))

@@ -13,10 +13,10 @@ use Rattle.layout.specs.declared.Edition.TheVariants.{One, Three, Four}
 use Rattle.layout.specs.Editions.{length_of, last_of}
 use Rattle.layout.specs.Page.{legal}
 use Rattle.ties.proofs.TieLaws.{is_lowest}
-use Rattle.checking.specs.declared.Answer.TheVariants.{Accepted}
 use Rattle.checking.specs.Check.{known_length, printable_at, checked_in, checked}
 use Rattle.checking.specs.Acceptable.{Acceptable, Fits}
 use Rattle.checking.proofs.Told.{Told, told}
+use Rattle.std.proofs.Common.{Ok}
 
 known : (ed : Edition) → known_length (length_of ed) ≡ true
 known One = refl
@@ -27,7 +27,7 @@ known Four = refl
 up_to : (n : ℕ) (test : ℕ → Bool) → ((k : ℕ) → 1 ≤ k → k ≤ n → test k ≡ true) → (k : ℕ) → 1 ≤ k → k < 1 + n → test k ≡ true
 up_to n test f k h l = f k h (omega arith)
 
-all_kept : (ed : Edition) (xs : List ℕ) → Acceptable ed xs → checked xs ≡ Accepted ed
+all_kept : (ed : Edition) (xs : List ℕ) → Acceptable ed xs → checked xs ≡ Ok ed
 unfolding checked checked_in
 all_kept ed xs a =
     let n : known_length (length xs) ≡ true = ap known_length a.full ∙ known ed in
@@ -41,6 +41,6 @@ all_kept ed xs a =
       is_lowest ed xs 0 (at_none a.tied),
     )
 
-pub accepted_exactly : (xs : List ℕ) (ed : Edition) → (checked xs ≡ Accepted ed) ↔ Acceptable ed xs
+pub accepted_exactly : (xs : List ℕ) (ed : Edition) → (checked xs ≡ Ok ed) ↔ Acceptable ed xs
 unfolding Told Fits
 accepted_exactly xs ed = ((λ e. (rw e at (told xs)).0), all_kept ed xs)

@@ -11,8 +11,8 @@ use Rattle.text.specs.Bytes.{every, between, blank, to_last_non_blank}
 use Rattle.layout.specs.declared.Edition.{Edition}
 use Rattle.refusals.specs.declared.Refusal.{Refusal}
 use Rattle.layout.specs.Page.{text_of, start_of, element, columns, page}
-use Rattle.checking.specs.declared.Answer.TheVariants.{Accepted, Refused}
 use Rattle.checking.specs.Check.{checked, call_sign_of}
+use Rattle.std.proofs.Common.{Ok, Err}
 
 -- s is the part of t up to its last byte that is not blank
 pub record ToLast (t s : List ℕ) : Type 0 where
@@ -43,10 +43,10 @@ unfolding to_last_non_blank every
 to_last [] = none [] refl
 to_last (b ∷ bs) = step b bs (blank (b ∷ bs)) refl (to_last bs)
 
-pub shown_to_last : (xs : List ℕ) (ed : Edition) → checked xs ≡ Accepted ed → ToLast (take 7 (drop 71 xs)) (call_sign_of (checked xs) xs)
+pub shown_to_last : (xs : List ℕ) (ed : Edition) → checked xs ≡ Ok ed → ToLast (take 7 (drop 71 xs)) (call_sign_of (checked xs) xs)
 unfolding call_sign_of text_of start_of element columns page
 shown_to_last xs ed e = rw e (to_last (take 7 (drop 71 xs)))
 
-pub hidden : (xs : List ℕ) (r : Refusal) → checked xs ≡ Refused r → call_sign_of (checked xs) xs ≡ []
+pub hidden : (xs : List ℕ) (r : Refusal) → checked xs ≡ Err r → call_sign_of (checked xs) xs ≡ []
 unfolding call_sign_of
 hidden xs r e = rw e

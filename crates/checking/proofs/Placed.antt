@@ -1,16 +1,13 @@
 -- The byte in a column, as the code reads it. Assumes nothing.
 use mathlib.Core.Path.{◌≡◌, refl, sym, ap, ◌∙◌}
-use mathlib.Core.Bool.{true}
+use mathlib.Core.Bool.{Bool, true}
 use mathlib.Core.List.{List, [], ◌∷◌}
 use Prim.Native.Nat.{ℕ, zero, suc, ◌+◌, ◌-◌, ◌<◌, ◌≤◌}
 use native.Mathlib.Nat.{le_of_suc-le-suc, not-suc-le-zero}
 use native.Mathlib.Omega.{arith}
 use lib.ListN.{length, get_or, get_or-eq_default}
-use lib.Dec.{eqb}
 use Rattle.text.specs.Bytes.{printable}
 use Rattle.layout.specs.Page.{start_of, first_byte}
-use Rattle.faults.specs.Faults.{no}
-use Rattle.faults.proofs.Joins.{is_none}
 use Rattle.checking.specs.Check.{column, printable_at}
 
 -- what stands at a place within a list is the same whatever stands past its end
@@ -42,5 +39,5 @@ unfolding column
 blank_zero xs = refl
 
 -- what the test of a byte says of its column
-pub printed : (xs : List ℕ) (c : ℕ) → 1 ≤ c → c ≤ length xs → {r : ℕ} → r ≡ no (printable (get_or xs (c - 1) 0)) → eqb r 0 ≡ printable_at xs c
-printed xs c h l e = is_none _ e ∙ ap printable (sym (column_at xs c h l))
+pub printed : (xs : List ℕ) (i : ℕ) → i < length xs → {r : Bool} → r ≡ printable (get_or xs i 0) → r ≡ printable_at xs (i + 1)
+printed xs i h e = e ∙ ap printable (sym (column_at xs (i + 1) (omega arith) (omega arith) ∙ ap (λ (k : ℕ). get_or xs k 0) (omega arith)))

@@ -17,12 +17,12 @@ use Rattle.text.proofs.Ranges.{least, greatest, wider}
 use Rattle.text.proofs.Ways.{and_first, and_second}
 use Rattle.layout.specs.declared.Edition.{Edition}
 use Rattle.layout.specs.declared.Edition.TheVariants.{One, Three, Four}
-use Rattle.layout.specs.declared.Named.TheVariants.{Known}
 use Rattle.layout.specs.Editions.{edition_of, length_of, last_of}
 use Rattle.layout.specs.Page.{Element, page, none, elements, element, columns, width_of, start_of, text_of, first_byte, legal_texts_in, legal_texts, may_be_blank, legal}
 use Rattle.layout.proofs.Columns.{start_next, filled}
 use Rattle.layout.proofs.Parts.{one_byte}
 use Rattle.layout.proofs.RecordLaws.{begins}
+use Rattle.std.proofs.Common.{Some}
 
 pub every_append : (p : ℕ → Bool) (a b : List ℕ) → every p a ≡ true → every p b ≡ true → every p (a ++ b) ≡ true
 unfolding every
@@ -148,14 +148,14 @@ module _ (ed : Edition) (xs : List ℕ) (long : 131 ≤ length xs) where
       by Three k = k
       by Four k = k
 
-  pub edition_digit : legal ed xs 65 ≡ true → edition_of (first_byte 65 xs) ≡ Known ed
+  pub edition_digit : legal ed xs 65 ≡ true → edition_of (first_byte 65 xs) ≡ Some ed
   unfolding legal element page allows
   edition_digit h = by ed h
     where
       exactly : (d : ℕ) → (digits (text_of 65 xs) && between d d (number (text_of 65 xs))) ≡ true → first_byte 65 xs ≡ 48 + d
       exactly d k = let r = single 65 d d refl (begins One 65 (omega arith) (omega arith)) k in omega arith
 
-      by : (ed : Edition) → legal ed xs 65 ≡ true → edition_of (first_byte 65 xs) ≡ Known ed
+      by : (ed : Edition) → legal ed xs 65 ≡ true → edition_of (first_byte 65 xs) ≡ Some ed
       by One k = rw (exactly 1 k)
       by Three k = rw (exactly 3 k)
       by Four k = rw (exactly 4 k)

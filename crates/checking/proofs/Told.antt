@@ -13,8 +13,6 @@ use lib.ListN.{length, get_or-eq_default}
 use Rattle.text.specs.Bytes.{printable}
 use Rattle.text.proofs.First.{Found, at_none, at_lowest, found}
 use Rattle.layout.specs.declared.Edition.{Edition}
-use Rattle.layout.specs.declared.Named.{Named}
-use Rattle.layout.specs.declared.Named.TheVariants.{Known, Unknown}
 use Rattle.refusals.specs.declared.Refusal.{Refusal}
 use Rattle.refusals.specs.declared.Refusal.TheVariants.{Length, Unprintable, Format, Version, EditionLength, Illegal, Broken}
 use Rattle.layout.specs.Editions.{length_of, last_of}
@@ -22,19 +20,18 @@ use Rattle.layout.specs.Page.{legal}
 use Rattle.refusals.specs.Refusals.{number_of, where_of}
 use Rattle.refusals.specs.Verdicts.{unless, refused_at}
 use Rattle.ties.specs.Ties.{tie}
-use Rattle.checking.specs.declared.Answer.{Answer}
-use Rattle.checking.specs.declared.Answer.TheVariants.{Accepted, Refused}
-use Rattle.checking.specs.Check.{column, known_length, printable_at, known_format, named, checked_in, checked}
+use Rattle.checking.specs.Check.{column, known_length, printable_at, known_format, named, checked_in, checked, Answer}
 use Rattle.checking.specs.Rules.{only, is_known, of_edition, rules, rule, FirstFailure}
 use Rattle.checking.specs.Acceptable.{Fits}
 use Rattle.layout.proofs.Beyond.{legal_none, legal_zero}
 use Rattle.ties.proofs.TieLaws.{lowest_broken}
 use Rattle.checking.proofs.Placed.{column_none, blank_zero}
+use Rattle.std.proofs.Common.{Option, Some, None, Ok, Err}
 
 -- what an answer is known to say of the record: it fits, and where it accepts every rule holds at every place
 unfoldable pub Told : List ℕ → Answer → Type 0
-Told xs (Accepted ed) = Fits xs (Accepted ed) × ((n q : ℕ) → rule xs n q ≡ true)
-Told xs (Refused r) = Fits xs (Refused r)
+Told xs (Ok ed) = Fits xs (Ok ed) × ((n q : ℕ) → rule xs n q ≡ true)
+Told xs (Err r) = Fits xs (Err r)
 
 pub apart : {b : Bool} → b ≡ true → b ≡ false → ⊥
 apart e f = true≢false (sym e ∙ f)
@@ -93,7 +90,7 @@ module _ (xs : List ℕ) where
 
   -- a rule of one place: it fails there, or what follows is told
   by_test : (kept : Bool) (r : Refusal) (a : Answer) → ((q : ℕ) → rule xs (number_of r) q ≡ only (where_of r) kept q) → Past (number_of r) →
-      (kept ≡ true → Past (suc (number_of r)) → Told xs a) → Told xs (unless Refused kept r a)
+      (kept ≡ true → Past (suc (number_of r)) → Told xs a) → Told xs (unless Err kept r a)
   unfolding Told Fits
   by_test true r a f past next = next refl (one_more _ past (λ q. f q ∙ only_kept (where_of r) q))
   by_test false r a f past next = record {
@@ -105,7 +102,7 @@ module _ (xs : List ℕ) where
   -- a rule of several places: it fails at the lowest that was found, or what follows is told
   module _ (n : ℕ) (r : ℕ → Refusal) (test : ℕ → Bool) (a : Answer) (number : (p : ℕ) → number_of (r p) ≡ n) (place : (p : ℕ) → where_of (r p) ≡ p)
       (is : (q : ℕ) → rule xs n q ≡ test q) (past : Past n) (next : ((q : ℕ) → test q ≡ true) → Past (suc n) → Told xs a) where
-    by_place : (p : ℕ) → Found test p → Told xs (refused_at Refused r p a)
+    by_place : (p : ℕ) → Found test p → Told xs (refused_at Err r p a)
     unfolding Told Fits
     by_place p (at_none f) = next f (one_more n past (λ q. is q ∙ f q))
     by_place p (at_lowest q low x f) =
@@ -113,15 +110,15 @@ module _ (xs : List ℕ) where
         (record { fails = is q ∙ x; earlier = past; lower = λ j h. is j ∙ f j h })
 
   -- what is known where rules 1 to 4 hold and column 111 names the edition ed
-  module _ (ed : Edition) (e : named xs ≡ Known ed) (prints : (c : ℕ) → printable_at xs c ≡ true) (format : known_format (column 1 xs) ≡ true) (past : Past 5) where
-    told_known : Told xs (checked_in (Known ed) xs)
+  module _ (ed : Edition) (e : named xs ≡ Some ed) (prints : (c : ℕ) → printable_at xs c ≡ true) (format : known_format (column 1 xs) ≡ true) (past : Past 5) where
+    told_known : Told xs (checked_in (Some ed) xs)
     unfolding checked_in rule Told Fits
     told_known =
-        by_test (eqb (length xs) (length_of ed)) EditionLength _ (λ q. ap (λ (m : Named). only 0 (of_edition m (λ ed. eqb (length xs) (length_of ed))) q) e) past
+        by_test (eqb (length xs) (length_of ed)) EditionLength _ (λ q. ap (λ (m : Option Edition). only 0 (of_edition m (λ ed. eqb (length xs) (length_of ed))) q) e) past
         (λ full past6. let f : length xs ≡ length_of ed = eqb-true _ _ full in
-        by_place 6 Illegal (legal ed xs) _ (λ p. refl) (λ p. refl) (λ q. ap (λ (m : Named). of_edition m (λ ed. legal ed xs q)) e) past6
+        by_place 6 Illegal (legal ed xs) _ (λ p. refl) (λ p. refl) (λ q. ap (λ (m : Option Edition). of_edition m (λ ed. legal ed xs q)) e) past6
         (λ lawful past7.
-        by_place 7 Broken (tie ed xs) _ (λ p. refl) (λ p. refl) (λ q. ap (λ (m : Named). of_edition m (λ ed. tie ed xs q)) e) past7
+        by_place 7 Broken (tie ed xs) _ (λ p. refl) (λ p. refl) (λ q. ap (λ (m : Option Edition). of_edition m (λ ed. tie ed xs q)) e) past7
         (λ tied past8. (
           record {
             names = e;
@@ -137,12 +134,12 @@ module _ (xs : List ℕ) where
         _ (found (legal ed xs) (legal_zero ed xs) (last_of ed) (legal_none ed xs f)))
 
   -- rule 4, and the rest where it holds
-  told_in : (m : Named) → named xs ≡ m → ((c : ℕ) → printable_at xs c ≡ true) → known_format (column 1 xs) ≡ true → Past 4 → Told xs (checked_in m xs)
+  told_in : (m : Option Edition) → named xs ≡ m → ((c : ℕ) → printable_at xs c ≡ true) → known_format (column 1 xs) ≡ true → Past 4 → Told xs (checked_in m xs)
   unfolding checked_in rule
-  told_in Unknown e prints format past =
-      by_test false Version (Refused Version) (λ q. ap (λ (m : Named). only 111 (is_known m) q) e) past (λ never. absurd (true≢false (sym never)))
-  told_in (Known ed) e prints format past =
-      told_known ed e prints format (one_more 4 past (λ q. ap (λ (m : Named). only 111 (is_known m) q) e ∙ only_kept 111 q))
+  told_in None e prints format past =
+      by_test false Version (Err Version) (λ q. ap (λ (m : Option Edition). only 111 (is_known m) q) e) past (λ never. absurd (true≢false (sym never)))
+  told_in (Some ed) e prints format past =
+      told_known ed e prints format (one_more 4 past (λ q. ap (λ (m : Option Edition). only 111 (is_known m) q) e ∙ only_kept 111 q))
 
   -- what check answers is true of the record
   pub told : Told xs (checked xs)

@@ -1,8 +1,6 @@
 -- The rules of check by number and place, with no order among them: what 'rule n fails at p' says. Assumes nothing.
-use Rattle.std.specs.Prelude.{ℕ, ◌<◌, ◌≡◌, List, [], ◌∷◌, Bool, true, false, cond, eqb, length, get_or}
+use Rattle.std.specs.Prelude.{ℕ, ◌<◌, ◌≡◌, List, [], ◌∷◌, Bool, true, false, cond, eqb, length, get_or, Option, Some, None}
 use Rattle.layout.specs.declared.Edition.{Edition}
-use Rattle.layout.specs.declared.Named.{Named}
-use Rattle.layout.specs.declared.Named.TheVariants.{Known, Unknown}
 use Rattle.layout.specs.Editions.{length_of}
 use Rattle.layout.specs.Page.{legal}
 use Rattle.ties.specs.Ties.{tie}
@@ -12,14 +10,14 @@ use Rattle.checking.specs.Check.{column, known_length, printable_at, known_forma
 abbrev pub only : ℕ → Bool → ℕ → Bool
 only place kept p = cond (eqb p place) kept true
 
-abbrev pub is_known : Named → Bool
-is_known Unknown = false
-is_known (Known ed) = true
+abbrev pub is_known : Option Edition → Bool
+is_known None = false
+is_known (Some ed) = true
 
 -- rules 5, 6, 7 ask something of the record's edition; where column 111 names none there is nothing to ask, and rule 4 has failed
-abbrev pub of_edition : Named → (Edition → Bool) → Bool
-of_edition Unknown asks = true
-of_edition (Known ed) asks = asks ed
+abbrev pub of_edition : Option Edition → (Edition → Bool) → Bool
+of_edition None asks = true
+of_edition (Some ed) asks = asks ed
 
 -- the rules by number, from 1 on, each a test of a place
 abbrev pub rules : List ℕ → List (ℕ → Bool)

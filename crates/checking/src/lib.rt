@@ -5,33 +5,22 @@
 #![tactic(auto)]
 
 ghost use Rattle.std.specs.Prelude.{◌≡◌, ◌≤◌, length};
-ghost use Rattle.text.specs.First.{first_of};
-ghost use Rattle.layout.specs.declared.Edition.{Edition};
+ghost use Rattle.text.specs.Bytes.{printable};
+ghost use Rattle.text.specs.First.{first_of, nonzero};
 ghost use Rattle.layout.specs.Editions.{length_of};
-ghost use Rattle.checking.specs.Check.{known_length, printable_at, checked_in, checked, answer_verdict, call_sign_of};
+ghost use Rattle.checking.specs.Check.{known_length, known_format, printable_at, checked_in, checked, answer_verdict, call_sign_of};
 
-use faults::strays;
-use layout::{Edition, Named, page};
+use layout::{Edition, page};
 use refusals::{Refusal, Verdict};
 
-// What checking a record answers.
-#[derive(Clone, Copy)]
-pub enum Answer {
-    // it has the columns, codes and ties of its edition
-    Accepted(Edition),
-    Refused(Refusal),
-}
+// What checking a record answers: its edition, where the record has the columns, codes and ties of it.
+pub type Answer = Result<Edition, Refusal>;
 
-impl Answer {
-    // What the answer says by its verdict.
-    pub fn verdict(self) -> Verdict
-        ensures { result ≡ answer_verdict self }
-    {
-        match self {
-            Answer::Accepted(_) => Verdict::Fine,
-            Answer::Refused(refusal) => Verdict::Refused(refusal),
-        }
-    }
+// What an answer says by its verdict.
+pub fn verdict_of(answer: Answer) -> Verdict
+    ensures { result ≡ answer_verdict answer }
+{
+    answer.map(|_| ())
 }
 
 // Does some edition have records that long?
@@ -41,36 +30,47 @@ fn is_known_length(n: usize) -> bool
     n == 131 || n == 159
 }
 
-// The lowest column that holds no printable character, or 0.
-fn first_unprintable(line: &[u8]) -> usize
-    ensures { result ≡ first_of (length line.now) (printable_at line.now) }
+// Is the byte a printable character?
+fn is_printable(b: u8) -> bool
+    ensures { result ≡ printable b }
 {
-    let mut c = 1;
-    while c <= line.len() {
-        if strays(line[c - 1], 32, 126) != 0 {
-            return c;
+    matches!(b, 32..=126)
+}
+
+// Is it a digit that column 1 may hold?
+fn is_known_format(b: u8) -> bool
+    ensures { result ≡ known_format b }
+{
+    matches!(b, b'3'..=b'5')
+}
+
+// The lowest column that holds no printable character.
+fn first_unprintable(line: &[u8]) -> Option<usize>
+    ensures { result ≡ nonzero (first_of (length line.now) (printable_at line.now)) }
+{
+    for (at, &b) in line.iter().enumerate() {
+        if !is_printable(b) {
+            return Some(at + 1);
         }
-        c += 1;
     }
-    0
+    None
 }
 
 // Rules 5, 6 and 7, which go by the edition.
 fn check_in(edition: Edition, line: &[u8]) -> Answer
-    ensures { result ≡ checked_in (Named.Known edition) line.now }
+    ensures { result ≡ checked_in (Some edition) line.now }
 {
     if line.len() != edition.length() {
-        return Answer::Refused(Refusal::EditionLength);
+        return Err(Refusal::EditionLength);
     }
-    let e = page::first_illegal(edition, line);
-    if e != 0 {
-        return Answer::Refused(Refusal::Illegal(e));
+    if let Some(e) = page::first_illegal(edition, line) {
+        return Err(Refusal::Illegal(e));
     }
     let k = ties::first_broken(edition, line);
     if k != 0 {
-        return Answer::Refused(Refusal::Broken(k));
+        return Err(Refusal::Broken(k));
     }
-    Answer::Accepted(edition)
+    Ok(edition)
 }
 
 // Goes through the rules one by one: accepted, or the first rule that the record breaks.
@@ -78,19 +78,18 @@ fn check_in_order(line: &[u8]) -> Answer
     ensures { result ≡ checked line.now }
 {
     if !is_known_length(line.len()) {
-        return Answer::Refused(Refusal::Length);
+        return Err(Refusal::Length);
     }
-    let c = first_unprintable(line);
-    if c != 0 {
-        return Answer::Refused(Refusal::Unprintable(c));
+    if let Some(c) = first_unprintable(line) {
+        return Err(Refusal::Unprintable(c));
     }
-    if strays(page::first_byte(line, 1), b'3', b'5') != 0 {
-        return Answer::Refused(Refusal::Format);
+    if !is_known_format(page::first_byte(line, 1)) {
+        return Err(Refusal::Format);
     }
-    match Edition::of_digit(page::first_byte(line, 65)) {
-        Named::Known(edition) => check_in(edition, line),
-        Named::Unknown => Answer::Refused(Refusal::Version),
-    }
+    let Some(edition) = Edition::of_digit(page::first_byte(line, 65)) else {
+        return Err(Refusal::Version);
+    };
+    check_in(edition, line)
 }
 
 // Checks a record: accepted, or the first rule that it breaks. Most records are accepted, and a glance
@@ -99,8 +98,8 @@ pub fn check(line: &[u8]) -> Answer
     ensures { result ≡ checked line.now }
 {
     match glance::edition_of(line) {
-        Named::Known(edition) => Answer::Accepted(edition),
-        Named::Unknown => check_in_order(line),
+        Some(edition) => Ok(edition),
+        None => check_in_order(line),
     }
 }
 
@@ -108,17 +107,17 @@ pub fn check(line: &[u8]) -> Answer
 // that holds it: from column 72 to its last non-blank. Empty where it is missing, and where the record is
 // refused.
 pub fn call_sign_after(answer: Answer, line: &[u8]) -> &[u8]
-    requires { (ed : Edition) → answer ≡ Answer.Accepted ed → length line.now ≡ length_of ed }
+    requires { (ed : Edition) → answer ≡ Ok ed → length line.now ≡ length_of ed }
     ensures result_value { result.now ≡ call_sign_of answer line.now }
     ensures result_len_bound { length result.now ≤ 7 }
 {
     match answer {
-        Answer::Accepted(_) => {
+        Ok(_) => {
             let part = page::full_text(line, 42);
             let n = text::filled(part);
             &part[..n]
         }
-        Answer::Refused(_) => &line[..0],
+        Err(_) => &line[..0],
     }
 }
 

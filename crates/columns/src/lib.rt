@@ -48,12 +48,10 @@ pub fn part(
     ensures { result ≡ 0 → (ed : Edition) → Rows ed at low high also to bond → Range ed line.now at (at + 16) }
 {
     let mut bad: u8 = 0;
-    let mut k: usize = 0;
-    while k < 16 {
+    for k in 0..16 {
         let b = line[at + k];
         let next = line[at + k + 1];
         bad = bad | (outside(b, low[k], high[k], also[k], to[k]) | apart(b, next, bond[k]));
-        k += 1;
     }
     bad
 }

@@ -17,8 +17,7 @@ use Rattle.text.proofs.Below.{every_below, passes_below}
 use Rattle.numerals.specs.Numerals.{spelled}
 use Rattle.layout.specs.declared.Edition.{Edition}
 use Rattle.layout.specs.declared.Edition.TheVariants.{One, Three, Four}
-use Rattle.layout.specs.declared.Named.{Named}
-use Rattle.layout.specs.declared.Named.TheVariants.{Known, Unknown}
+use Rattle.std.proofs.Common.{Option, Some, None}
 use Rattle.layout.specs.Editions.{edition_of, length_of, last_of}
 use Rattle.layout.specs.Page.{page, element, width_of, columns, start_of, text_of, first_byte, legal_texts, may_be_blank, legal_text, legal}
 use Rattle.layout.proofs.Parts.{text_byte, one_byte}
@@ -99,15 +98,15 @@ held_if true a b f g = f refl
 held_if false a b f g = g
 
 -- column 111 names an edition, so it is not blank
-named_there : (ed : Edition) (b : ℕ) → edition_of b ≡ Known ed → eqb b 32 ≡ false
-named_there ed b n = decide (eqb b 32) (λ e. let g : ◌≡◌ {A = Named} Unknown (Known ed) = rw (eqb-true b 32 e) at n in let z : ◌≡◌ {A = ℕ} 0 1 = cc in absurd (omega arith)) (λ e. e)
+named_there : (ed : Edition) (b : ℕ) → edition_of b ≡ Some ed → eqb b 32 ≡ false
+named_there ed b n = decide (eqb b 32) (λ e. let g : ◌≡◌ {A = Option Edition} None (Some ed) = rw (eqb-true b 32 e) at n in let z : ◌≡◌ {A = ℕ} 0 1 = cc in absurd (omega arith)) (λ e. e)
 
 -- a text that is blank or allowed is legal where it may be blank
 may_be : (m b a : Bool) → m ≡ true → (b || a) ≡ true → ((m && b) || a) ≡ true
 may_be true b a e h = h
 may_be false b a e h = absurd (true≢false (sym e))
 
-module _ (ed : Edition) (xs : List ℕ) (full : length xs ≡ length_of ed) (named : edition_of (first_byte 65 xs) ≡ Known ed) (cols : Columns ed xs) (nums : Limits (dates ++ (places ++ (winds ++ falls))) xs) (codes : Codes xs) (rest : Rest ed xs) where
+module _ (ed : Edition) (xs : List ℕ) (full : length xs ≡ length_of ed) (named : edition_of (first_byte 65 xs) ≡ Some ed) (cols : Columns ed xs) (nums : Limits (dates ++ (places ++ (winds ++ falls))) xs) (codes : Codes xs) (rest : Rest ed xs) where
   quadrant_holds : (ed : Edition) → Rest ed xs → quadrant ed (first_byte 6 xs) ≡ true
   unfolding quadrant
   quadrant_holds One l = refl

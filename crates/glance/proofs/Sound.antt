@@ -2,11 +2,9 @@
 use mathlib.Core.Path.{◌≡◌, subst}
 use mathlib.Core.List.{List}
 use Prim.Native.Nat.{ℕ}
-use native.Mathlib.Omega.{arith}
 use lib.ListN.{length}
 use Rattle.layout.specs.declared.Edition.{Edition}
-use Rattle.layout.specs.declared.Named.{Named}
-use Rattle.layout.specs.declared.Named.TheVariants.{Known, Unknown}
+use Rattle.std.proofs.Common.{Some}
 use Rattle.layout.specs.Editions.{edition_of, length_of}
 use Rattle.layout.specs.Page.{first_byte}
 use Rattle.columns.specs.Tables.{Shared, Own}
@@ -16,14 +14,11 @@ use Rattle.glance.proofs.Lawful.{join, lawful}
 use Rattle.glance.proofs.Tied.{tied}
 
 -- the edition that was said
-pub none_said : {A : Type 0} (ed : Edition) → ◌≡◌ {A = Named} Unknown (Known ed) → A
-none_said ed e = let z : ◌≡◌ {A = ℕ} 0 1 = cc in absurd (omega arith)
-
-pub said : (xs : List ℕ) (ed other : Edition) → Known ed ≡ Known other → Sure ed xs → Sure other xs
+pub said : (xs : List ℕ) (ed other : Edition) → Some ed ≡ Some other → Sure ed xs → Sure other xs
 said xs ed other e s = let f : ed ≡ other = cc in subst (λ (d : Edition). Sure d xs) f s
 
 -- all that the tests say, together
-pub surely_sound : (ed : Edition) (xs : List ℕ) → length xs ≡ length_of ed → edition_of (first_byte 65 xs) ≡ Known ed → Shared xs → Alike xs → Own ed xs → Rest ed xs → Sure ed xs
+pub surely_sound : (ed : Edition) (xs : List ℕ) → length xs ≡ length_of ed → edition_of (first_byte 65 xs) ≡ Some ed → Shared xs → Alike xs → Own ed xs → Rest ed xs → Sure ed xs
 surely_sound ed xs full named s a o r =
     let cols = cover ed xs s o in
     let nums = join _ dates _ a.0 (join _ places _ a.1.0 (join _ winds falls a.1.1.0 a.1.1.1.0)) in

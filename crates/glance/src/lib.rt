@@ -8,14 +8,13 @@
 ghost use Rattle.std.specs.Prelude.{◌≡◌, true, ◌+◌, ◌≤◌, length};
 ghost use Rattle.text.specs.Bytes.{word};
 ghost use Rattle.faults.specs.Faults.{no};
-ghost use Rattle.layout.specs.declared.Named.TheVariants.{Known};
 ghost use Rattle.layout.specs.Editions.{edition_of, length_of, longest_record};
 ghost use Rattle.layout.specs.Page.{width_of, start_of, text_of, first_byte};
 ghost use Rattle.glance.specs.Tests.{in_limit, neither, last_highest, plus_zero, top_digit, half_digit, needs, octant_near, common};
 ghost use Rattle.glance.specs.Sure.{dates, places, winds, falls, courses, Limits, Codes, Temperature, Temperatures, InEveryYear, Alike, Rest, Sure};
 
 use faults::{above, equal, other, past, reaches, same};
-use layout::{Edition, Named, page, widths};
+use layout::{Edition, page, widths};
 
 // The bytes of element e as one number, the first highest. Digits stand in the order of the numbers that
 // they say, and blanks below all of them, so that limits are set on the bytes themselves.
@@ -232,7 +231,7 @@ fn alike(line: &[u8]) -> u8
 
 // Is a record of this length and this column 111 surely accepted?
 fn is_sure(edition: Edition, line: &[u8]) -> bool
-    requires { (length line.now ≡ length_of edition) × (edition_of (first_byte 65 line.now) ≡ Known edition) }
+    requires { (length line.now ≡ length_of edition) × (edition_of (first_byte 65 line.now) ≡ Some edition) }
     ensures { result ≡ true → Sure edition line.now }
 {
     if columns::shared(line) | alike(line) != 0 {
@@ -244,23 +243,19 @@ fn is_sure(edition: Edition, line: &[u8]) -> bool
     rest(edition, line) == 0
 }
 
-// The edition of a record that is surely accepted, for every byte string. Unknown says nothing.
-pub fn edition_of(line: &[u8]) -> Named
-    ensures { (ed : Edition) → result ≡ Named.Known ed → Sure ed line.now }
+// The edition of a record that is surely accepted, for every byte string. None says nothing.
+pub fn edition_of(line: &[u8]) -> Option<Edition>
+    ensures { (ed : Edition) → result ≡ Some ed → Sure ed line.now }
 {
     if line.len() < Edition::LENGTH_1 {
-        return Named::Unknown;
+        return None;
     }
-    match Edition::of_digit(page::first_byte(line, 65)) {
-        Named::Known(edition) => {
-            if line.len() != edition.length() {
-                return Named::Unknown;
-            }
-            if !is_sure(edition, line) {
-                return Named::Unknown;
-            }
-            Named::Known(edition)
-        }
-        Named::Unknown => Named::Unknown,
+    let edition = Edition::of_digit(page::first_byte(line, 65))?;
+    if line.len() != edition.length() {
+        return None;
     }
+    if !is_sure(edition, line) {
+        return None;
+    }
+    Some(edition)
 }

@@ -1,12 +1,8 @@
-use Prim.Native.Nat.{◌+◌, ◌-◌, ◌≤◌}
-use mathlib.Core.Path.{◌≡◌}
-use lib.ListN.{length}
+use Rattle.std.proofs.Common.{◌≡◌, ◌+◌, ◌-◌, length}
 use Rattle.text.specs.First.{first_from, first_of}
 use Rattle.checking.specs.Check.{printable_at}
 use Rattle.checking.proofs.first_unprintable.Given as goal
 
-abbrev pub invariant-loop-c : goal.invariant-loop-c
-invariant-loop-c l = (1 ≤ l.c) × (first_of (length l.line) (printable_at l.line) ≡ first_from (printable_at l.line) l.c (length l.line + 1 - l.c))
-
-abbrev pub decreases-loop-c : goal.decreases-loop-c
-decreases-loop-c l = length l.line + 1 - l.c
+-- the loop stands before column at + 1, and what is left to look at says the same as the whole
+abbrev pub invariant-loop-at : goal.invariant-loop-at
+invariant-loop-at l = first_of (length l.line) (printable_at l.line) ≡ first_from (printable_at l.line) (l.at + 1) (length l.line + 1 - (l.at + 1))

@@ -1,7 +1,6 @@
 -- `checking::show_call_sign` meets its contract. Assumes nothing.
 use Rattle.checking.proofs.Demand2Acceptance.{accepted_exactly}
-use Rattle.checking.specs.declared.Answer.{Answer}
-use Rattle.checking.specs.Check.{call_sign_of}
+use Rattle.checking.specs.Check.{call_sign_of, Answer}
 use mathlib.Core.Path.{◌∙◌, ap, sym}
 use Rattle.checking.proofs.show_call_sign.Goals as goal
 

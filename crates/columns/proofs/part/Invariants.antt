@@ -1,10 +1,7 @@
-use Prim.Native.Nat.{ℕ, ◌-◌, ◌<◌, ◌≤◌}
+use Prim.Native.Nat.{ℕ, ◌<◌}
 use mathlib.Core.Path.{◌≡◌}
 use Rattle.columns.proofs.Ranges.{Judged}
 use Rattle.columns.proofs.part.Given as goal
 
 abbrev pub invariant-loop-k : goal.invariant-loop-k
-invariant-loop-k l = (l.k ≤ 16) × (l.bad ≡ 0 → (j : ℕ) → j < l.k → Judged l.line l.at l.low l.high l.also l.to l.bond j)
-
-abbrev pub decreases-loop-k : goal.decreases-loop-k
-decreases-loop-k l = 16 - l.k
+invariant-loop-k l = l.bad ≡ 0 → (j : ℕ) → j < l.k → Judged l.line l.at l.low l.high l.also l.to l.bond j

@@ -1,7 +1,5 @@
 -- `glance::is_sure` meets its contract. Assumes nothing.
 use native.Mathlib.Omega.{arith}
-use mathlib.Core.Path.{sym}
-use mathlib.Core.Bool.{true≢false}
 use borrow.Author.Tests.{eqb-true}
 use Rattle.text.proofs.Bits.{or_left, or_right}
 use Rattle.layout.proofs.RecordLaws.{shortest}

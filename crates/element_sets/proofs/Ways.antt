@@ -1,13 +1,10 @@
 -- What each way through the tests of an element's number says of the set: which word has the bit, if any. Assumes nothing.
-use mathlib.Core.Path.{◌≡◌, refl, ap, ◌∙◌}
+use mathlib.Core.Path.{◌≡◌, refl}
 use mathlib.Core.Logic.{◌⊎◌, inl, inr}
 use mathlib.Core.Bool.{Bool, true, false}
-use Prim.Native.Nat.{ℕ, ◌+◌, ◌-◌, ◌*◌, ◌/◌, ◌%◌, ◌^◌, ◌<◌, ◌≤◌}
-use native.Mathlib.Nat.{one-mul}
+use Prim.Native.Nat.{ℕ, ◌+◌, ◌-◌, ◌<◌, ◌≤◌}
 use native.Mathlib.Omega.{arith}
-use lib.Dec.{eqb, leb, lit<}
-use lib.Bits.{bit_and, bit_or, and_mask}
-use lib.Pow.{shl_exact}
+use lib.Dec.{leb}
 use lib.Count.{count_trailing_zeros}
 use borrow.Author.Tests.{leb-true, leb-false, eq-eqb, ne_eqb, lt-ltb, le-ltb, le-leb, lt-leb}
 use Rattle.element_sets.specs.declared.ElementSet.{ElementSet}
@@ -21,27 +18,8 @@ up_to_or_past m n = by (leb m n) refl
     by true e = inl (leb-true m n e)
     by false e = inr (leb-false m n e)
 
--- a one shifted to bit k of a word
-one_shifted : (k : ℕ) → k < 64 → 1 * 2 ^ k % 2 ^ 64 ≡ 2 ^ k
-one_shifted k h = shl_exact 1 k 64 (lit< tt) (omega arith) ∙ one-mul (2 ^ k)
-
--- a set with a one shifted into a word
-pub low_masked : (s : ElementSet) (k : ℕ) → k < 64 → element_set (bit_or s.low (1 * 2 ^ k % 2 ^ 64)) s.high ≡ element_set (with_bit s.low k) s.high
-low_masked s k h = ap (λ (x : ℕ). element_set (bit_or s.low x) s.high) (one_shifted k h)
-
-pub high_masked : (s : ElementSet) (k : ℕ) → k < 64 → element_set s.low (bit_or s.high (1 * 2 ^ k % 2 ^ 64)) ≡ element_set s.low (with_bit s.high k)
-high_masked s k h = ap (λ (x : ℕ). element_set s.low (bit_or s.high x)) (one_shifted k h)
-
--- the lowest bit of what is left after a shift
-pub bit_tested : (w k : ℕ) → eqb (bit_and (w / 2 ^ k) 1) 1 ≡ has_bit w k
-bit_tested w k = ap (λ (x : ℕ). eqb x 1) (and_mask (w / 2 ^ k) 1)
-
 module _ (s : ElementSet) where
   module _ (e : ℕ) where
-    pub with_zero : e < 1 → with_element s e ≡ s
-    unfolding with_element
-    with_zero h = rw (lt-ltb e 1 h)
-
     pub with_low : 1 ≤ e → e ≤ 64 → with_element s e ≡ element_set (with_bit s.low (e - 1)) s.high
     unfolding with_element
     with_low h g = rw (le-ltb e 1 h, le-leb e 64 g)
@@ -49,10 +27,6 @@ module _ (s : ElementSet) where
     pub with_high : 64 < e → e ≤ 128 → with_element s e ≡ element_set s.low (with_bit s.high (e - 65))
     unfolding with_element
     with_high h g = rw (le-ltb e 1 (omega arith), lt-leb e 64 h, le-leb e 128 g)
-
-    pub with_past : 128 < e → with_element s e ≡ s
-    unfolding with_element
-    with_past h = rw (le-ltb e 1 (omega arith), lt-leb e 64 (omega arith), lt-leb e 128 h)
 
     pub has_zero : e < 1 → has_element s e ≡ false
     unfolding has_element

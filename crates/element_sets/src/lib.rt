@@ -23,62 +23,53 @@ impl ElementSet {
     }
 
     // The set with element e besides. A number that has no bit leaves it as it is.
+    #[tactic(auto, unfolding(crate::specs::ElementSets::with_element))]
     pub fn with(self, e: usize) -> ElementSet
         ensures { result ≡ with_element self e }
     {
-        if e < 1 {
-            return self;
-        }
-        if e <= 64 {
-            let mask = 1u64 << (e - 1);
-            return ElementSet {
-                low: self.low | mask,
+        match e {
+            1..=64 => ElementSet {
+                low: self.low | 1 << (e - 1),
                 high: self.high,
-            };
-        }
-        if e <= 128 {
-            let mask = 1u64 << (e - 65);
-            return ElementSet {
+            },
+            65..=128 => ElementSet {
                 low: self.low,
-                high: self.high | mask,
-            };
+                high: self.high | 1 << (e - 65),
+            },
+            _ => self,
         }
-        self
     }
 
     // Is element e in the set? A number that has no bit is not.
+    #[tactic(auto, unfolding(crate::specs::ElementSets::has_element))]
     pub fn has(self, e: usize) -> bool
         ensures { result ≡ has_element self e }
     {
-        if e < 1 {
-            return false;
+        match e {
+            1..=64 => (self.low >> (e - 1)) & 1 == 1,
+            65..=128 => (self.high >> (e - 65)) & 1 == 1,
+            _ => false,
         }
-        if e <= 64 {
-            return (self.low >> (e - 1)) & 1 == 1;
-        }
-        if e <= 128 {
-            return (self.high >> (e - 65)) & 1 == 1;
-        }
-        false
     }
 
     // How many elements are in the set.
     pub fn count(self) -> u64
         ensures { result ≡ count_of self }
     {
-        (u64::count_ones(self.low) + u64::count_ones(self.high)) as u64
+        u64::from(self.low.count_ones() + self.high.count_ones())
     }
 
-    // The lowest element of the set, 0 where it is empty.
+    // The lowest element of the set, 0 where it is empty. No Option: docs/DECISIONS.md promises the 0.
+    #[tactic(auto, unfolding(crate::specs::ElementSets::lowest_of))]
     pub fn lowest(self) -> u64
         ensures { result ≡ lowest_of self }
     {
         if self.low != 0 {
-            return (u64::trailing_zeros(self.low) + 1) as u64;
+            u64::from(self.low.trailing_zeros()) + 1
+        } else if self.high != 0 {
+            u64::from(self.high.trailing_zeros()) + 65
+        } else {
+            0
         }
-        if self.high != 0 {
-            return (u64::trailing_zeros(self.high) + 65) as u64;
-        }
-        0
     }
 }

@@ -6,11 +6,11 @@
 // word it says nothing: descriptor 3 may then be anybody's.
 #![tactic(auto)]
 
-use report_run::Ending;
+use report_run::Failure;
 use reporting::Stage;
 use std::env::FillError;
 use std::fs::{File, OpenOptions};
-use std::io::ErrorKind;
+use std::io::{ErrorKind, Write};
 use std::rt::{Env, HostRuntime};
 use std::{fs, io};
 
@@ -27,35 +27,28 @@ fn open_again(rt: &HostRuntime, descriptor: &str) -> io::Result<File> {
 
 // Was the program started with a word?
 fn has_word(rt: &HostRuntime) -> bool {
-    match rt.arg(1, &mut [0u8; 1]) {
-        Ok(_) => true,
-        Err(FillError::TooLong) => true,
-        Err(FillError::NotPresent) => false,
-    }
+    !matches!(rt.arg(1, &mut [0u8; 1]), Err(FillError::NotPresent))
 }
 
 // Says how the program came to its end, where it was asked to.
 fn say_end(rt: &HostRuntime, end: &[u8]) {
     if has_word(rt) {
         if let Ok(mut file) = open_again(rt, END) {
-            report_run::write_all(&mut file, end);
+            let _ = file.write_all(end);
         }
     }
 }
 
 // Says what failed, in one line.
-fn say_failure(rt: &HostRuntime, name: &[u8], what: &[u8]) {
+fn say_failure(rt: &HostRuntime, name: &[u8], failure: Failure) {
     let mut to = rt.stderr();
-    report_run::write_all(&mut to, name);
-    report_run::write_all(&mut to, what);
+    let _ = to.write_all(name);
+    let _ = writeln!(to, ": {failure}");
 }
 
 // Is standard output a file?
 fn is_file(rt: &HostRuntime) -> bool {
-    match fs::metadata(rt, OUTPUT) {
-        Ok(output) => output.is_file(),
-        Err(_) => false,
-    }
+    fs::metadata(rt, OUTPUT).is_ok_and(|output| output.is_file())
 }
 
 // Has the device of a file taken all that was written? Some files have none.
@@ -66,42 +59,36 @@ fn is_taken(file: &File) -> bool {
     }
 }
 
-// What a report came to once its output has gone to its device: some devices tell only then that a write
-// failed. Nothing closes standard output here, so the device of a file is asked; of anything else what the
+// Sees what was written to its device, where standard output is a file: some devices tell only then that a
+// write failed. Nothing closes standard output here, so the device is asked; of anything else what the
 // writes answered stands.
-fn settled(rt: &HostRuntime, ending: Ending) -> Ending {
+fn settle(rt: &HostRuntime) -> Result<(), Failure> {
     if is_file(rt) {
         if let Ok(file) = open_again(rt, OUTPUT) {
             if !is_taken(&file) {
-                return Ending::Unwritten;
+                return Err(Failure::Unwritten);
             }
         }
     }
-    ending
+    Ok(())
 }
 
-// Says how a report came to its end: 0 nothing refused, 1 something refused, 2 a failure.
-fn say_ending(rt: &HostRuntime, ending: Ending, name: &[u8]) {
-    match ending {
-        Ending::Accepted => say_end(rt, b"0\n"),
-        Ending::Refused => say_end(rt, b"1\n"),
-        Ending::Unread => {
-            say_failure(rt, name, b": the input could not be read\n");
-            say_end(rt, b"2\n");
-        }
-        Ending::Unwritten => {
-            say_failure(rt, name, b": the output could not be written\n");
-            say_end(rt, b"2\n");
-        }
-    }
+// Writes the report, and sees it to its device. Answers whether anything was refused.
+fn report(rt: &HostRuntime, stage: Stage) -> Result<bool, Failure> {
+    let is_refused = report_run::run(rt.stdin(), rt.stdout(), stage)?;
+    settle(rt)?;
+    Ok(is_refused)
 }
 
-// Runs a report from the stage that its program begins in; `name` is the program's.
+// Runs a report from the stage that its program begins in; `name` is the program's. Says how it came to its
+// end: 0 nothing refused, 1 something refused, 2 a failure.
 pub fn run(rt: &HostRuntime, stage: Stage, name: &[u8]) {
-    match report_run::run(rt.stdin(), rt.stdout(), stage) {
-        Ending::Accepted => say_ending(rt, settled(rt, Ending::Accepted), name),
-        Ending::Refused => say_ending(rt, settled(rt, Ending::Refused), name),
-        Ending::Unread => say_ending(rt, Ending::Unread, name),
-        Ending::Unwritten => say_ending(rt, Ending::Unwritten, name),
+    match report(rt, stage) {
+        Ok(false) => say_end(rt, b"0\n"),
+        Ok(true) => say_end(rt, b"1\n"),
+        Err(failure) => {
+            say_failure(rt, name, failure);
+            say_end(rt, b"2\n");
+        }
     }
 }

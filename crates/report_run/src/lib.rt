@@ -8,6 +8,7 @@ ghost use Rattle.std.specs.Prelude.{◌≤◌, length};
 ghost use Rattle.report_lines.specs.Says.{record_most};
 
 use reporting::{Run, Stage};
+use std::fmt;
 use std::io::{Read, Write};
 use std::rt::{Stdin, Stdout};
 
@@ -15,204 +16,78 @@ use std::rt::{Stdin, Stdout};
 // microsecond, so that with a quarter of this the calls of the system make a run a tenth longer.
 const PIECE: usize = 262144;
 
-// How a report came to its end.
-#[derive(Clone, Copy)]
-pub enum Ending {
-    // the whole input was read, all was written, and nothing was refused
-    Accepted,
-    // the same, and something was refused
-    Refused,
+// What keeps a report from its end.
+#[derive(Clone, Copy, Debug, PartialEq, Eq)]
+pub enum Failure {
     // a read failed: the lines that had ended are told, and nothing after them
     Unread,
     // a write failed
     Unwritten,
 }
 
-// What moving a piece of the input came to.
-#[derive(Clone, Copy)]
-enum Step {
-    // there may be more
-    More,
-    // the input is at its end
-    End,
-    // a read failed
-    Unread,
-    // a write failed
-    Unwritten,
-}
-
-// A run so far, and what the last piece came to.
-#[derive(Clone, Copy)]
-struct Moved {
-    run: Run,
-    step: Step,
-}
-
-// A run after a piece, and whether a write failed.
-#[derive(Clone, Copy)]
-struct Written {
-    run: Run,
-    failed: bool,
-}
-
-// Writes all of the bytes and answers true, or stops at the first write that takes nothing or fails and
-// answers false, when some of them may have been written.
-pub fn write_all<W: Write>(to: &mut W, bytes: &[u8]) -> bool {
-    let mut done = 0;
-    while done < bytes.len() {
-        match to.write(&bytes[done..]) {
-            Ok(count) => {
-                if count == 0 {
-                    return false;
-                }
-                done += count;
-            }
-            Err(_) => return false,
+impl fmt::Display for Failure {
+    fn fmt<W: fmt::Write>(&self, f: &mut fmt::Formatter<W>) -> fmt::Result {
+        match self {
+            Failure::Unread => write!(f, "the input could not be read"),
+            Failure::Unwritten => write!(f, "the output could not be written"),
         }
     }
-    true
 }
 
-// Feeds a piece to the run, and writes what it says, until a write fails.
-fn feed_all<W: Write>(to: &mut W, run: Run, piece: &[u8], out: &mut [u8]) -> Written
+// Writes all of the bytes. Of a write that fails some may have been written, and stay so.
+fn write_all<W: Write>(to: &mut W, bytes: &[u8]) -> Result<(), Failure> {
+    to.write_all(bytes).map_err(|_| Failure::Unwritten)
+}
+
+// Feeds a piece to the run, and writes what it says.
+fn feed_all<W: Write>(
+    to: &mut W,
+    run: Run,
+    piece: &[u8],
+    out: &mut [u8],
+) -> Result<Run, Failure>
     requires { record_most ≤ length out.old }
 {
     let mut now = run;
-    let mut at = 0;
-    while at < piece.len() {
-        let fed = reporting::feed(now, &piece[at..], out);
-        let next = fed.run;
-        let taken = fed.taken;
-        let written = fed.written;
-        now = next;
-        at += taken;
-        if !write_all(to, &out[..written]) {
-            return Written {
-                run: now,
-                failed: true,
-            };
-        }
+    let mut rest = piece;
+    while !rest.is_empty() {
+        let fed = reporting::feed(now, rest, out);
+        write_all(to, &out[..fed.written])?;
+        now = fed.run;
+        rest = &rest[fed.taken..];
     }
-    Written {
-        run: now,
-        failed: false,
-    }
+    Ok(now)
 }
 
-// Reads a piece of the input, and feeds it.
-fn move_piece<R: Read, W: Write>(
-    from: &mut R,
-    to: &mut W,
-    run: Run,
-    buffer: &mut [u8],
-    out: &mut [u8],
-) -> Moved
-    requires { record_most ≤ length out.old }
-{
-    match from.read(buffer) {
-        Err(_) => Moved {
-            run: run,
-            step: Step::Unread,
-        },
-        Ok(count) => {
-            if count == 0 {
-                return Moved {
-                    run: run,
-                    step: Step::End,
-                };
-            }
-            let written = feed_all(to, run, &buffer[..count], out);
-            let next = written.run;
-            if written.failed {
-                return Moved {
-                    run: next,
-                    step: Step::Unwritten,
-                };
-            }
-            Moved {
-                run: next,
-                step: Step::More,
-            }
-        }
-    }
-}
-
-// Is there nothing more to move?
-fn is_over(step: Step) -> bool {
-    match step {
-        Step::More => false,
-        Step::End => true,
-        Step::Unread => true,
-        Step::Unwritten => true,
-    }
-}
-
-// Moves the input piece by piece, to its end or until a read or a write fails. A proved loop has to
-// end, and nothing says that an input does: the loop counts its turns down from a number that no run uses
-// up.
+// Moves the input piece by piece, to its end or until a read or a write fails. A proved loop has to end,
+// and nothing says that an input does: no input has as many pieces as are counted here.
 fn move_all<R: Read, W: Write>(
     from: &mut R,
     to: &mut W,
     run: Run,
     buffer: &mut [u8],
     out: &mut [u8],
-) -> Moved
+) -> Result<Run, Failure>
     requires { record_most ≤ length out.old }
 {
     let mut now = run;
-    let mut turns = u64::MAX;
-    while turns > 0 {
-        let moved = move_piece(from, to, now, buffer, out);
-        let step = moved.step;
-        let next = moved.run;
-        if is_over(step) {
-            return Moved {
-                run: next,
-                step: step,
-            };
+    for _ in 0..u64::MAX {
+        let count = from.read(buffer).map_err(|_| Failure::Unread)?;
+        if count == 0 {
+            break;
         }
-        now = next;
-        turns -= 1;
+        now = feed_all(to, now, &buffer[..count], out)?;
     }
-    Moved {
-        run: now,
-        step: Step::End,
-    }
+    Ok(now)
 }
 
-// Finishes the run, and writes what it says last.
-fn finish<W: Write>(to: &mut W, run: Run, out: &mut [u8]) -> Ending {
-    let finished = reporting::finish(run, out);
-    let written = finished.written;
-    if !write_all(to, &out[..written]) {
-        return Ending::Unwritten;
-    }
-    if finished.refused {
-        Ending::Refused
-    } else {
-        Ending::Accepted
-    }
-}
-
-// Reads an input to its end and writes its report.
-pub fn run(stdin: Stdin, stdout: Stdout, stage: Stage) -> Ending {
-    let mut from = stdin;
-    let mut to = stdout;
+// Reads an input to its end and writes its report. Answers whether anything was refused.
+pub fn run(mut stdin: Stdin, mut stdout: Stdout, stage: Stage) -> Result<bool, Failure> {
     let mut buffer = [0u8; PIECE];
     let mut out = [0u8; PIECE];
-    let moved = move_all(
-        &mut from,
-        &mut to,
-        reporting::start(stage),
-        &mut buffer,
-        &mut out,
-    );
-    let run = moved.run;
-    let step = moved.step;
-    match step {
-        Step::More => finish(&mut to, run, &mut out),
-        Step::End => finish(&mut to, run, &mut out),
-        Step::Unread => Ending::Unread,
-        Step::Unwritten => Ending::Unwritten,
-    }
+    let start = reporting::start(stage);
+    let run = move_all(&mut stdin, &mut stdout, start, &mut buffer, &mut out)?;
+    let finished = reporting::finish(run, &mut out);
+    write_all(&mut stdout, &out[..finished.written])?;
+    Ok(finished.refused)
 }

@@ -6,7 +6,6 @@
 
 ghost use Rattle.std.specs.Prelude.{◌≤◌, length};
 
-use report_run::Ending;
 use reporting::{Job, Stage};
 use std::rt::{Stdin, Stdout};
 
@@ -32,12 +31,9 @@ pub extern "C" fn trial_report(
     ensures { (result ≤ length out.old) × (closing.new ≤ length last.old) }
 {
     let fed = reporting::feed(reporting::start(stage_of(number)), input, out);
-    let written = fed.written;
-    let run = fed.run;
-    let finished = reporting::finish(run, last);
-    let end = finished.written;
-    *closing = end as u64;
-    written as u64
+    let finished = reporting::finish(fed.run, last);
+    *closing = finished.written as u64;
+    fed.written as u64
 }
 
 // Runs a program's report over standard input and output: 0 nothing refused, 1 something refused, 2 a
@@ -46,9 +42,8 @@ pub extern "C" fn trial_report(
 #[unsafe(no_mangle)]
 pub extern "C" fn trial_program(stdin: Stdin, stdout: Stdout, number: u64) -> u64 {
     match report_run::run(stdin, stdout, stage_of(number)) {
-        Ending::Accepted => 0,
-        Ending::Refused => 1,
-        Ending::Unread => 2,
-        Ending::Unwritten => 2,
+        Ok(false) => 0,
+        Ok(true) => 1,
+        Err(_) => 2,
     }
 }

@@ -1,13 +1,16 @@
 -- The end of a line, looked for sixteen bytes at a time. Assumes nothing.
-use mathlib.Core.Path.{◌≡◌, ap, ◌∙◌}
-use mathlib.Core.List.{List}
-use Prim.Native.Nat.{ℕ, ◌+◌, ◌<◌, ◌≤◌}
-use native.Mathlib.Numerals.{add-one}
+use mathlib.Core.Path.{◌≡◌, refl, sym, ap, ◌∙◌}
+use mathlib.Core.Bool.{Bool, true, false}
+use mathlib.Core.List.{List, [], ◌∷◌, ◌++◌}
+use Prim.Native.Nat.{ℕ, ◌+◌, ◌-◌, ◌≤◌}
 use native.Mathlib.Omega.{arith}
-use borrow.Author.Tests.{ne_eqb}
 use lib.Bits.{bit_or, or_add_and, and_le_l, and_le_r}
-use lib.ListN.{length, get_or, drop}
-use lib.Seq.{drop-cons}
+use lib.Dec.{eqb}
+use lib.ListN.{length, take, drop, length-drop}
+use lib.Seq.{length-take-le, drop-drop}
+use Rattle.std.specs.Int.{from_bool}
+use Rattle.std.specs.List.{fold}
+use Rattle.std.proofs.lemmas.List.{take-append-drop}
 use Rattle.octets.specs.Octets.{index_of, index_after}
 use Rattle.reporting.specs.Lines.{next_end}
 
@@ -19,26 +22,31 @@ module _ (a b : ℕ) (none : bit_or a b ≡ 0) where
   right_none : b ≡ 0
   right_none = omega (arith, or_add_and a b, and_le_l a b, and_le_r a b)
 
--- a byte that ends no line is passed over
-end_passed : (piece : List ℕ) (at : ℕ) → at < length piece → (get_or piece at 0 ≡ 10 → ⊥) → next_end piece at ≡ next_end piece (at + 1)
+-- what was found so far, and whether one byte more ends a line
+abbrev joined : ℕ → ℕ → ℕ
+joined found byte = bit_or found (from_bool (eqb byte 10))
+
+-- where nothing is found in some bytes, the line ends after them
+none_ends : (bytes rest : List ℕ) (found : ℕ) → fold joined found bytes ≡ 0 → (found ≡ 0) × (index_of 10 (bytes ++ rest) ≡ length bytes + index_of 10 rest)
 unfolding index_of index_after
-end_passed piece at h other = rw (add-one at, drop-cons piece at 0 h, ne_eqb (get_or piece at 0) 10 other) (omega arith)
+none_ends [] rest found e = (e, omega arith)
+none_ends (b ∷ bytes) rest found e = by (eqb b 10) refl (none_ends bytes rest (joined found b) e)
+  where
+    by : (x : Bool) → eqb b 10 ≡ x → (joined found b ≡ 0) × (index_of 10 (bytes ++ rest) ≡ length bytes + index_of 10 rest) →
+        (found ≡ 0) × (index_after x (index_of 10 (bytes ++ rest)) ≡ length (b ∷ bytes) + index_of 10 rest)
+    by true h later = absurd (omega (arith, right_none found (from_bool (eqb b 10)) later.0, ap from_bool h))
+    by false h later = (left_none found (from_bool (eqb b 10)) later.0, omega (arith, later.1))
 
-module _ (piece : List ℕ) (at : ℕ) where
-  -- where nothing was found before byte k, nor at it, the line ends after it; and sixteen of them are all
-  pub end_start : next_end piece at ≡ next_end piece (at + 0)
-  end_start = ap (next_end piece) (omega arith)
+-- and so it does in a part of a piece
+pub end_passed : (piece : List ℕ) (at end : ℕ) → at ≤ end → end ≤ length piece → fold joined 0 (take (end - at) (drop at piece)) ≡ 0 → next_end piece at ≡ next_end piece end
+end_passed piece at end h k none =
+    let rest = drop at piece in
+    let full : length (take (end - at) rest) ≡ end - at = length-take-le (end - at) rest (omega (arith, length-drop at piece)) in
+    let split : index_of 10 rest ≡ index_of 10 (take (end - at) rest ++ drop (end - at) rest) = ap (index_of 10) (sym (take-append-drop (end - at) rest)) in
+    let sum : at + (end - at) ≡ end = omega arith in
+    let after : index_of 10 (drop (end - at) rest) ≡ index_of 10 (drop end piece) = ap (index_of 10) (drop-drop (end - at) at piece ∙ ap (λ (n : ℕ). drop n piece) sum) in
+    omega (arith, full, split, after, (none_ends (take (end - at) rest) (drop (end - at) rest) 0 none).1)
 
-  module _ (k : ℕ) {found : ℕ} (before : found ≡ 0 → next_end piece at ≡ next_end piece (at + k)) where
-    pub end_turn : {one : ℕ} → at + k < length piece → (get_or piece (at + k) 0 ≡ 10 → one ≡ 1) → bit_or found one ≡ 0 → next_end piece at ≡ next_end piece (at + (k + 1))
-    end_turn {one} h here none =
-        let next : at + k + 1 ≡ at + (k + 1) = omega arith in
-        let other : get_or piece (at + k) 0 ≡ 10 → ⊥ = λ e. omega (arith, here e, right_none found one none) in
-        before (left_none found one none) ∙ end_passed piece (at + k) h other ∙ ap (next_end piece) next
-
-    pub end_block : 16 ≤ k → k ≤ 16 → found ≡ 0 → next_end piece at ≡ next_end piece (at + 16)
-    end_block h l none = before none ∙ ap (λ (n : ℕ). next_end piece (at + n)) (omega arith)
-
-  -- what is left of the piece
-  pub end_found : {r : ℕ} → r ≡ at + index_of 10 (drop at piece) → r ≡ next_end piece at
-  end_found e = e
+-- what is left of the piece
+pub end_found : (piece : List ℕ) (at : ℕ) {r : ℕ} → r ≡ at + index_of 10 (drop at piece) → r ≡ next_end piece at
+end_found piece at e = e

@@ -14,7 +14,7 @@ use Rattle.reporting.specs.declared.Told.{Told}
 use Rattle.reporting.specs.Run.{state, ledger_after, said_of, last_words, has_refused, end_of, closing}
 use Rattle.reporting.specs.FeedClauses.{view}
 use Rattle.reporting.specs.FeedClauses.{Tells, Finishes, closing_most}
-use Rattle.reporting.proofs.KeepLaws.{take_min}
+use Rattle.std.proofs.lemmas.List.{take_min}
 
 -- a buffer without room for the end is left as it is
 pub finish_short : (run : Run) (before : List ℕ) (b : Bool) → length before < closing_most → Finishes run before before (record { written = 0; refused = b })
@@ -31,7 +31,7 @@ closing_line l (b ∷ held) h = (refl, refl)
 -- what is held of the line is no more than the array has
 module _ (run : Run) (long : length run.held ≡ 160) (n : ℕ) (e : n ≡ min run.length 160) where
   pub held_view : state run.ledger (take n run.held) ≡ view run
-  held_view = ap (state run.ledger) (rw e (take_min run.length 160 run.held long))
+  held_view = ap (state run.ledger) (ap (λ (k : ℕ). take k run.held) (e ∙ ap (min run.length) (sym long)) ∙ take_min run.length run.held)
 
   closing_none : n ≡ 0 → (closing (view run) ≡ last_words run.ledger) × (end_of (view run) ≡ run.ledger)
   unfolding closing end_of

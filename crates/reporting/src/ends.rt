@@ -2,29 +2,19 @@
 //
 // A record has 131 or 159 bytes, and to look at each of them alone would take longer than to put the
 // record's line: so sixteen are looked at together.
-ghost use Rattle.std.specs.Prelude.{◌≡◌, ◌+◌, ◌≤◌, length};
+ghost use Rattle.std.specs.Prelude.{◌≡◌, ◌+◌, ◌≤◌, length, bit_or, nat_eq};
+ghost use Rattle.std.specs.List.{fold};
+ghost use Rattle.std.specs.Int.{from_bool};
 ghost use Rattle.reporting.specs.Lines.{next_end};
 
-// 1 for a byte that ends a line, and 0 for another.
-fn ends_line(byte: u8) -> u8
-    ensures { byte ≡ 10 → result ≡ 1 }
+// Not 0 where a line ends among the bytes. Each of them is looked at, whatever those before it are, so that
+// the processor takes all of sixteen at once; which of them ends a line is not said.
+fn ends_among(bytes: &[u8]) -> u8
+    ensures { result ≡ fold (λ found byte. bit_or found (from_bool (nat_eq byte 10))) 0 bytes.now }
 {
-    if byte == b'\n' { 1 } else { 0 }
-}
-
-// 0 where no line ends among the sixteen bytes from `at` on. Each of them is looked at, whatever those
-// before it are, so that the processor takes all sixteen at once; which of them ends a line is not said.
-fn ends_in_sixteen(piece: &[u8], at: usize) -> u8
-    requires { at + 16 ≤ length piece.now }
-    ensures { result ≡ 0 → next_end piece.now at ≡ next_end piece.now (at + 16) }
-{
-    let mut found = 0;
-    let mut k = 0;
-    while k < 16 {
-        found = found | ends_line(piece[at + k]);
-        k += 1;
-    }
-    found
+    bytes
+        .iter()
+        .fold(0, |found, byte| found | u8::from(*byte == b'\n'))
 }
 
 // Where the line ends that `from` lies in: at the next byte 10, or at the end of the piece. Sixteen bytes
@@ -36,7 +26,7 @@ pub fn line_end(piece: &[u8], from: usize) -> usize
 {
     let mut at = from;
     while 16 <= piece.len() - at {
-        if ends_in_sixteen(piece, at) != 0 {
+        if ends_among(&piece[at..at + 16]) != 0 {
             break;
         }
         at += 16;

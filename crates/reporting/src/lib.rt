@@ -93,72 +93,48 @@ pub const CLOSING_MOST: usize = 12400;
 pub fn start(stage: Stage) -> Run
     ensures { view result ≡ start stage }
 {
-    let ledger = Ledger {
-        stage: stage,
-        records: 0,
-        refused: 0,
-    };
     Run {
-        ledger: ledger,
+        ledger: Ledger {
+            stage,
+            records: 0,
+            refused: 0,
+        },
         held: [0u8; HELD],
         length: 0,
     }
 }
 
-// The next count; the last one has none after it.
-fn one_more(n: u64) -> u64
-    ensures { result ≡ one_more n }
-{
-    if n < u64::MAX { n + 1 } else { n }
-}
-
-// The lesser of two numbers.
-fn least(a: usize, b: usize) -> usize
-    ensures { result ≡ min a b }
-{
-    if a < b { a } else { b }
-}
-
 // The edition that a first line asks for.
+#[tactic(auto, using(crate::proofs::TellLaws::asks), unfolding(crate::specs::Report::asked_by))]
 fn asked_by(line: &[u8]) -> Named
     ensures { result ≡ asked_by line.now }
 {
-    if line.len() != 1 {
-        return Named::Unknown;
+    match line {
+        [digit] => Edition::of_digit(*digit),
+        _ => Named::Unknown,
     }
-    Edition::of_digit(line[0])
 }
 
 // Takes a first line that asks: says what it asks for, and answers the stage that it leads to.
-fn take_first(line: &[u8], records: u64, refused: u64, out: &mut [u8], at: usize) -> Told
+fn take_first(line: &[u8], before: Ledger, out: &mut [u8], at: usize) -> Told
     requires { at + record_most ≤ length out.old }
-    ensures { Tells (ledger Stage.Asking records refused) line.now at out.old out.new result }
+    ensures { Tells (ledger Stage.Asking before.records before.refused) line.now at out.old out.new result }
 {
     match asked_by(line) {
-        Named::Known(edition) => {
-            let end = recast_lines::put_heading(out, at, edition);
-            let ledger = Ledger {
+        Named::Known(edition) => Told {
+            ledger: Ledger {
                 stage: Stage::Telling(Job::Recast(edition)),
-                records: records,
-                refused: refused,
-            };
-            Told {
-                ledger: ledger,
-                end: end,
-            }
-        }
-        Named::Unknown => {
-            let end = recast_lines::put_not_held(out, at);
-            let ledger = Ledger {
+                ..before
+            },
+            end: recast_lines::put_heading(out, at, edition),
+        },
+        Named::Unknown => Told {
+            ledger: Ledger {
                 stage: Stage::Closed,
-                records: records,
-                refused: refused,
-            };
-            Told {
-                ledger: ledger,
-                end: end,
-            }
-        }
+                ..before
+            },
+            end: recast_lines::put_not_held(out, at),
+        },
     }
 }
 
@@ -174,34 +150,20 @@ fn tell(job: Job, line: &[u8], count: u64, out: &mut [u8], at: usize) -> Said
     }
 }
 
-// How many records are refused after one that is or is not.
-fn refused_after(is_refused: bool, refused: u64) -> u64
-    ensures { result ≡ refused_after is_refused refused }
-{
-    if is_refused {
-        one_more(refused)
-    } else {
-        refused
-    }
-}
-
-// Takes a record: says of it what the job has to say, and counts it.
-fn take_record(line: &[u8], job: Job, records: u64, refused: u64, out: &mut [u8], at: usize) -> Told
+// Takes a record: says of it what the job has to say, and counts it. The last count has none after it.
+fn take_record(line: &[u8], job: Job, before: Ledger, out: &mut [u8], at: usize) -> Told
     requires { at + record_most ≤ length out.old }
-    ensures { Tells (ledger (Stage.Telling job) records refused) line.now at out.old out.new result }
+    ensures { Tells (ledger (Stage.Telling job) before.records before.refused) line.now at out.old out.new result }
 {
-    let count = one_more(records);
+    let count = before.records.saturating_add(1);
     let said = tell(job, line, count, out, at);
-    let end = said.end;
-    let all = refused_after(said.refused, refused);
-    let ledger = Ledger {
-        stage: Stage::Telling(job),
-        records: count,
-        refused: all,
-    };
     Told {
-        ledger: ledger,
-        end: end,
+        ledger: Ledger {
+            stage: Stage::Telling(job),
+            records: count,
+            refused: before.refused.saturating_add(u64::from(said.refused)),
+        },
+        end: said.end,
     }
 }
 
@@ -210,14 +172,10 @@ fn take_line(line: &[u8], ledger: Ledger, out: &mut [u8], at: usize) -> Told
     requires { at + record_most ≤ length out.old }
     ensures { Tells ledger line.now at out.old out.new result }
 {
-    let stage = ledger.stage;
-    match stage {
-        Stage::Asking => take_first(line, ledger.records, ledger.refused, out, at),
-        Stage::Closed => Told {
-            ledger: ledger,
-            end: at,
-        },
-        Stage::Telling(job) => take_record(line, job, ledger.records, ledger.refused, out, at),
+    match ledger.stage {
+        Stage::Asking => take_first(line, ledger, out, at),
+        Stage::Closed => Told { ledger, end: at },
+        Stage::Telling(job) => take_record(line, job, ledger, out, at),
     }
 }
 
@@ -226,12 +184,8 @@ fn keep(held: &mut [u8], count: usize, bytes: &[u8]) -> usize
     requires { (count ≤ held_most) × (length held.old ≡ held_most) }
     ensures { (result ≤ held_most) × (take result held.new ≡ take held_most (take count held.old ++ bytes.now)) }
 {
-    let n = least(HELD - count, bytes.len());
-    let mut i = 0;
-    while i < n {
-        held[count + i] = bytes[i];
-        i += 1;
-    }
+    let n = bytes.len().min(HELD - count);
+    held[count..count + n].copy_from_slice(&bytes[..n]);
     count + n
 }
 
@@ -256,13 +210,13 @@ fn take_ended(
 }
 
 // Puts what is said last, by the stage.
+#[tactic(auto, using(wording::proofs::PutLaws::nothing), unfolding(crate::specs::Run::last_words))]
 fn put_last(ledger: Ledger, out: &mut [u8], at: usize) -> usize
     requires { at + line_most ≤ length out.old }
     ensures puts { Puts (last_words ledger) at out.old out.new result }
     ensures upper_bound { result ≤ at + line_most }
 {
-    let stage = ledger.stage;
-    match stage {
+    match ledger.stage {
         Stage::Asking => recast_lines::put_not_held(out, at),
         Stage::Closed => at,
         Stage::Telling(_) => report_lines::put_totals(out, at, ledger.records, ledger.refused),
@@ -270,13 +224,12 @@ fn put_last(ledger: Ledger, out: &mut [u8], at: usize) -> usize
 }
 
 // Was anything refused? A first line that asks for no edition that is held is a refusal too.
+#[tactic(auto, unfolding(crate::specs::Run::has_refused))]
 fn has_refused(ledger: Ledger) -> bool
     ensures { result ≡ has_refused ledger }
 {
-    let stage = ledger.stage;
-    match stage {
-        Stage::Asking => true,
-        Stage::Closed => true,
+    match ledger.stage {
+        Stage::Asking | Stage::Closed => true,
         Stage::Telling(_) => 0 < ledger.refused,
     }
 }
@@ -288,7 +241,7 @@ pub fn feed(run: Run, piece: &[u8], out: &mut [u8]) -> Fed
 {
     let mut held = run.held;
     let mut ledger = run.ledger;
-    let mut count = least(run.length, HELD);
+    let mut count = run.length.min(HELD);
     let mut at = 0;
     let mut written = 0;
     while at < piece.len() {
@@ -302,8 +255,7 @@ pub fn feed(run: Run, piece: &[u8], out: &mut [u8]) -> Fed
         } else {
             let next = end + 1;
             let told = take_ended(&mut held, count, &piece[at..end], ledger, out, written);
-            let after = told.ledger;
-            ledger = after;
+            ledger = told.ledger;
             written = told.end;
             count = 0;
             at = next;
@@ -311,12 +263,12 @@ pub fn feed(run: Run, piece: &[u8], out: &mut [u8]) -> Fed
     }
     Fed {
         run: Run {
-            ledger: ledger,
-            held: held,
+            ledger,
+            held,
             length: count,
         },
         taken: at,
-        written: written,
+        written,
     }
 }
 
@@ -333,19 +285,17 @@ pub fn finish(run: Run, out: &mut [u8]) -> Finished
     }
     let held = run.held;
     let ledger = run.ledger;
-    let count = least(run.length, HELD);
+    let count = run.length.min(HELD);
     if count == 0 {
-        let refused = has_refused(ledger);
         return Finished {
             written: put_last(ledger, out, 0),
-            refused: refused,
+            refused: has_refused(ledger),
         };
     }
     let told = take_line(&held[..count], ledger, out, 0);
     let last = told.ledger;
-    let refused = has_refused(last);
     Finished {
         written: put_last(last, out, told.end),
-        refused: refused,
+        refused: has_refused(last),
     }
 }

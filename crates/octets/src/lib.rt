@@ -20,12 +20,6 @@ pub fn find(bytes: &[u8], at: usize, byte: u8) -> usize
     ensures first { result ≡ at + index_of byte (drop at bytes.now) }
     ensures within { result ≤ length bytes.now }
 {
-    let mut here = at;
-    while here < bytes.len() {
-        if bytes[here] == byte {
-            return here;
-        }
-        here += 1;
-    }
-    here
+    let rest = &bytes[at..];
+    at + rest.iter().position(|b| *b == byte).unwrap_or(rest.len())
 }

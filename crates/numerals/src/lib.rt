@@ -8,7 +8,8 @@ ghost use Rattle.std.specs.Prelude.{◌≡◌, ◌+◌, ◌≤◌, ◌<◌, leng
 ghost use Rattle.text.specs.Bytes.{word};
 ghost use Rattle.numerals.specs.Numerals.{in_digits, in_bytes, in_blanks, spell, placed};
 
-// A number, and the base and the nought that it is spelled with.
+// A number, and the base and the nought that it is spelled with. No enum of the three ways: `put` would only
+// match it back to these two numbers, and `spell` says them once for all three.
 #[derive(Clone, Copy)]
 pub struct Numeral {
     pub base: u64,
@@ -51,16 +52,15 @@ impl Numeral {
     }
 }
 
-// Up to seven bytes as one number, the first byte highest.
+// Up to seven bytes as one number, the first byte highest. Not one function with `text::number_of`, which
+// is narrower (u32) and takes 48 from each byte: base, nought and type would all be parameters of five lines.
 pub fn word_of(text: &[u8]) -> u64
     requires { length text.now ≤ 7 }
     ensures { result ≡ word text.now }
 {
-    let mut n: u64 = 0;
-    let mut i = 0;
-    while i < text.len() {
-        n = n * 256 + text::byte(text[i]);
-        i += 1;
+    let mut n = 0;
+    for b in text {
+        n = n * 256 + u64::from(*b);
     }
     n
 }
@@ -70,13 +70,9 @@ pub fn put(buffer: &mut [u8], at: usize, width: usize, numeral: Numeral)
     requires { (at + width ≤ length buffer.old) × ((0 < numeral.base) × (numeral.nought + numeral.base ≤ 256)) }
     ensures { buffer.new ≡ placed at (spell width numeral) buffer.old }
 {
-    let base = numeral.base;
-    let nought = numeral.nought;
     let mut n = numeral.number;
-    let mut k = width;
-    while 0 < k {
-        k -= 1;
-        buffer[at + k] = (nought + n % base) as u8;
-        n = n / base;
+    for k in (0..width).rev() {
+        buffer[at + k] = (numeral.nought + n % numeral.base) as u8;
+        n /= numeral.base;
     }
 }

@@ -19,7 +19,9 @@ use Rattle.layout.specs.declared.Named.{Named}
 use Rattle.layout.specs.declared.Named.TheVariants.{Known, Unknown}
 use Rattle.refusals.specs.declared.Refusal.{Refusal}
 use Rattle.refusals.specs.declared.Refusal.TheVariants.{Unheld, Room}
-use Rattle.refusals.specs.Lent.{Call, refusing, writing, in_room, front_of, overwritten, left_by}
+use Rattle.refusals.specs.Lent.{Call, refusing, writing, in_room, verdict_of, front_of, overwritten, left_by}
+use Rattle.refusals.specs.declared.Verdict.TheVariants.{Fine}
+use Rattle.refusals.specs.declared.Verdict.TheVariants as Verdict
 use Rattle.refusals.proofs.LentLaws as Lent
 use Rattle.refusals.proofs.LentLaws.{has_room, lacks_room, Wrote, fine_means}
 use Rattle.layout.specs.Editions.{asked, length_of}
@@ -31,10 +33,9 @@ use Rattle.checking.specs.Check.{checked}
 use Rattle.checking.specs.Acceptable.{Acceptable}
 use Rattle.checking.proofs.Demand1Refusals.{fits, only_one}
 use Rattle.checking.proofs.Demand2Acceptance.{accepted_exactly}
-use Rattle.recasting.specs.declared.Outcome.{Outcome}
 use Rattle.meanings.specs.Meaning.{meaning_of}
 use Rattle.meanings.specs.Kept.{lost_at}
-use Rattle.recasting.specs.Recast.{digit_of, recast_record, recast_to, recast_after, recast_of, outcome_of, outcome_in, done, unrecast}
+use Rattle.recasting.specs.Recast.{digit_of, recast_record, recast_to, recast_after, recast_of, losses_in, Outcome, outcome_of, outcome_in, done, unrecast}
 use Rattle.meanings.specs.Lost.{Expressible}
 use Rattle.recasting.specs.Fits.{Names, Fits, refused, unheld, cramped, recast}
 use Rattle.recasting.proofs.ResultLaws.{result_long}
@@ -119,8 +120,12 @@ module _ (from to : Edition) (xs : List ℕ) (edition : ℕ) (before : List ℕ)
 -- a call that succeeds has done what demand 3 says
 pub success : (xs : List ℕ) (edition : ℕ) (before : List ℕ) (losses : ElementSet) → outcome_in (length before) (recast_of xs edition) ≡ done losses → Success xs edition before losses
 unfolding recast_after recast_to
-success xs edition before losses d = by (checked xs) refl (asked edition) refl (fine_means (length before) (recast_of xs edition) (ap (λ (o : Outcome). o.verdict) d))
+success xs edition before losses d = by (checked xs) refl (asked edition) refl (fine_means (length before) (recast_of xs edition) (fine (in_room (length before) (recast_of xs edition)) d))
   where
+    fine : (c : Call ElementSet) → outcome_of c ≡ done losses → verdict_of c ≡ Fine
+    fine (refusing r) e = cc
+    fine (writing a bytes) e = refl
+
     by : (c : Answer) → checked xs ≡ c → (n : Named) → asked edition ≡ n → Wrote (recast_of xs edition) (length before) → Success xs edition before losses
     by (Refused r) e n f w = let g : refusing r ≡ writing w.says w.bytes = rw e at w.is in let z : ◌≡◌ {A = ℕ} 0 1 = cc in absurd (omega arith)
     by (Accepted from) e Unknown f w = let g : refusing Unheld ≡ writing w.says w.bytes = rw (e, f) at w.is in let z : ◌≡◌ {A = ℕ} 0 1 = cc in absurd (omega arith)
@@ -128,13 +133,24 @@ success xs edition before losses d = by (checked xs) refl (asked edition) refl (
         let g : writing (set_of (lost_at from to xs)) (recast_record from to xs) ≡ writing w.says w.bytes = rw (e, f) at w.is in
         let bytes : recast_record from to xs ≡ w.bytes = cc in
         let room : length_of to ≤ length before = omega (arith, w.fits, ap length bytes, long from to xs edition before e f) in
-        let same : set_of (lost_at from to xs) ≡ losses = ap (λ (o : Outcome). o.losses) (sym (succeeds from to xs edition before e f room) ∙ d) in
+        let said : done (set_of (lost_at from to xs)) ≡ done losses = sym (succeeds from to xs edition before e f room) ∙ d in
+        let same : set_of (lost_at from to xs) ≡ losses = cc in
         rw (← same) (as_demanded from to xs edition before e f room)
 
 -- a refused call leaves the lent buffer as it was, and its loss set is empty
 pub refused_untouched : (xs : List ℕ) (edition : ℕ) (before : List ℕ) (r : Refusal) → outcome_in (length before) (recast_of xs edition) ≡ unrecast r →
-    (after xs edition before ≡ before) × ((outcome_in (length before) (recast_of xs edition)).losses ≡ no_elements)
-refused_untouched xs edition before r e = (Lent.refused_untouched (recast_of xs edition) before r (ap (λ (o : Outcome). o.verdict) e), ap (λ (o : Outcome). o.losses) e)
+    (after xs edition before ≡ before) × (losses_in (in_room (length before) (recast_of xs edition)) ≡ no_elements)
+refused_untouched xs edition before r e =
+    let c = in_room (length before) (recast_of xs edition) in
+    (Lent.refused_untouched (recast_of xs edition) before r (verdict c e), none c e)
+  where
+    verdict : (c : Call ElementSet) → outcome_of c ≡ unrecast r → verdict_of c ≡ Verdict.Refused r
+    verdict (refusing s) f = let same : s ≡ r = cc in ap Verdict.Refused same
+    verdict (writing a bytes) f = cc
+
+    none : (c : Call ElementSet) → outcome_of c ≡ unrecast r → losses_in c ≡ no_elements
+    none (refusing s) f = refl
+    none (writing a bytes) f = cc
 
 -- what is answered fits, and nothing else does
 module _ (xs : List ℕ) (edition : ℕ) (before : List ℕ) where

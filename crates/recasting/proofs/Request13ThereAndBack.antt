@@ -35,7 +35,6 @@ use Rattle.checking.proofs.Demand2Acceptance.{accepted_exactly}
 use Rattle.reading.specs.declared.Reading.TheVariants.{At}
 use Rattle.reading.specs.Readings.{item_of, reading_of}
 use Rattle.meanings.specs.Kept.{lost_at}
-use Rattle.recasting.specs.declared.Outcome.{Outcome}
 use Rattle.recasting.specs.Recast.{recast_record, recast_of, outcome_in, done}
 use Rattle.recasting.proofs.Request9Places.{standing, digit_number, HasDigit, every_place}
 use Rattle.recasting.proofs.NeverLaws as Never
@@ -197,7 +196,9 @@ module _ (from to : Edition) (xs outward homeward : List ℕ) (ok : checked xs �
   -- a record that lost nothing on the way and holds no such place comes home byte for byte
   pub byte_for_byte : outcome_in (length outward) (recast_of xs (edition_number to)) ≡ done no_elements → (OnEdge xs → ⊥) → back from to xs outward homeward ≡ xs
   byte_for_byte d n =
-      is_back ∙ Returns.comes_whole from to xs fine (none_lost (lost_at from to xs) (ap (λ (o : Outcome). o.losses) (sym goes ∙ d))) (six_again from to xs fine n)
+      let said : done (set_of (lost_at from to xs)) ≡ done no_elements = sym goes ∙ d in
+      let none : set_of (lost_at from to xs) ≡ no_elements = cc in
+      is_back ∙ Returns.comes_whole from to xs fine (none_lost (lost_at from to xs) none) (six_again from to xs fine n)
 
 -- there, back and there again is there, and the third recast loses nothing
 pub there_again : (from to : Edition) (xs outward homeward again : List ℕ) → checked xs ≡ Accepted from → length_of to ≤ length outward → length_of from ≤ length homeward → length_of to ≤ length again →

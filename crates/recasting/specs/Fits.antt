@@ -15,8 +15,7 @@ use Rattle.checking.specs.declared.Answer.TheVariants.{Refused}
 use Rattle.checking.specs.Acceptable.{Acceptable}
 use Rattle.checking.specs.Acceptable as Checking
 use Rattle.places.specs.Column12.{suits, crosses}
-use Rattle.recasting.specs.declared.Outcome.{Outcome}
-use Rattle.recasting.specs.Recast.{digit_of, done, unrecast}
+use Rattle.recasting.specs.Recast.{Outcome, digit_of, done, unrecast}
 use Rattle.meanings.specs.Lost.{Expressible, Lost}
 
 -- digit d of the target gives the record's place and keeps tie 2, and no lower one does

@@ -1,6 +1,6 @@
 -- What recasting a record to another edition comes to: rules 1 to 8, or the record in that edition and the elements lost. Room, 9, is the last rule of every call
 -- with a lent buffer. Assumes nothing.
-use Rattle.std.specs.Prelude.{ℕ, ◌+◌, ◌-◌, cond, ◌&&◌, List, [], ◌∷◌, ◌++◌, eqb, length, get_or}
+use Rattle.std.specs.Prelude.{ℕ, ◌+◌, ◌-◌, cond, ◌&&◌, List, [], ◌∷◌, ◌++◌, eqb, length, get_or, Result, Ok, Err}
 use Rattle.text.specs.Bytes.{number}
 use Rattle.numerals.specs.Numerals.{spell, in_blanks}
 use Rattle.element_sets.specs.ElementSets.{no_elements, set_of}
@@ -10,8 +10,7 @@ use Rattle.layout.specs.declared.Named.{Named}
 use Rattle.layout.specs.declared.Named.TheVariants.{Known, Unknown}
 use Rattle.refusals.specs.declared.Refusal.{Refusal}
 use Rattle.refusals.specs.declared.Refusal.TheVariants.{Unheld}
-use Rattle.refusals.specs.declared.Verdict.TheVariants as Verdict
-use Rattle.refusals.specs.Lent.{Call, refusing, writing, in_room, verdict_of}
+use Rattle.refusals.specs.Lent.{Call, refusing, writing, in_room}
 use Rattle.layout.specs.Editions.{asked, edition_number, longest_record}
 use Rattle.layout.specs.Page.{width_of, text_of}
 use Rattle.layout.specs.Records.{record_from}
@@ -20,7 +19,6 @@ use Rattle.checking.specs.declared.Answer.{Answer}
 use Rattle.checking.specs.declared.Answer.TheVariants.{Accepted, Refused}
 use Rattle.checking.specs.Check.{checked}
 use Rattle.places.specs.Column12.{lowest_digit, crosses}
-use Rattle.recasting.specs.declared.Outcome.{Outcome}
 use Rattle.meanings.specs.Kept.{lost_at}
 
 -- column 12 in the target: between edition 1 and the others the lowest digit with the same place that also keeps tie 2 (`every_place`: there is one), else it stays; a blank
@@ -65,20 +63,25 @@ recast_after (Accepted from) xs edition = recast_to from (asked edition) xs
 abbrev pub recast_of : List ℕ → ℕ → Call ElementSet
 recast_of xs edition = recast_after (checked xs) xs edition
 
--- what is answered: the verdict, and the elements lost; a refusal has an empty loss set
+-- the elements lost: a refusal has an empty loss set
 abbrev pub losses_in : Call ElementSet → ElementSet
 losses_in (refusing r) = no_elements
 losses_in (writing losses bytes) = losses
 
+-- what is answered: the elements lost, or why it is refused
+abbrev pub Outcome : Type 0
+Outcome = Result ElementSet Refusal
+
 abbrev pub outcome_of : Call ElementSet → Outcome
-outcome_of call = record { verdict = verdict_of call; losses = losses_in call }
+outcome_of (refusing r) = Err r
+outcome_of (writing losses bytes) = Ok losses
 
 abbrev pub outcome_in : ℕ → Call ElementSet → Outcome
 outcome_in room call = outcome_of (in_room room call)
 
 -- the outcome of a record that is recast, and of one that is refused
 abbrev pub done : ElementSet → Outcome
-done losses = record { verdict = Verdict.Fine; losses = losses }
+done losses = Ok losses
 
 abbrev pub unrecast : Refusal → Outcome
-unrecast r = record { verdict = Verdict.Refused r; losses = no_elements }
+unrecast r = Err r

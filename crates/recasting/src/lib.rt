@@ -10,30 +10,16 @@ ghost use Rattle.refusals.specs.Lent.{Answers};
 ghost use Rattle.layout.specs.Editions.{asked, length_of};
 ghost use Rattle.layout.specs.Page.{start_of};
 ghost use Rattle.checking.specs.Check.{checked};
-ghost use Rattle.recasting.specs.Recast.{hemisphere, digit_of, widened, recast_record, recast_to, recast_of, outcome_of, unrecast};
+ghost use Rattle.recasting.specs.Recast.{hemisphere, digit_of, widened, recast_record, recast_to, recast_of, outcome_of};
 
 use blanking::names;
 use checking::Answer;
 use element_sets::ElementSet;
 use layout::{Edition, Named, page, widths};
-use refusals::{Refusal, Verdict};
+use refusals::Refusal;
 
-// What recasting a record answers: the verdict, and the elements lost, none where it is refused.
-#[derive(Clone, Copy)]
-pub struct Outcome {
-    pub verdict: Verdict,
-    pub losses: ElementSet,
-}
-
-// The outcome of a record that is refused.
-fn refused(refusal: Refusal) -> Outcome
-    ensures { result ≡ unrecast refusal }
-{
-    Outcome {
-        verdict: Verdict::Refused(refusal),
-        losses: ElementSet::none(),
-    }
-}
+// What recasting a record answers: the elements lost, or why it is refused.
+pub type Outcome = Result<ElementSet, Refusal>;
 
 // Column 12 in the target.
 fn hemisphere_of(from: Edition, to: Edition, line: &[u8]) -> u8
@@ -119,14 +105,11 @@ fn recast_in(from: Edition, to: Edition, line: &[u8], buffer: &mut [u8]) -> Outc
 {
     let length = to.length();
     if buffer.len() < length {
-        return refused(Refusal::Room);
+        return Err(Refusal::Room);
     }
     let row = &mut buffer[..length];
     make(from, to, line, row);
-    Outcome {
-        verdict: Verdict::Fine,
-        losses: names::losses_of(from, to, line),
-    }
+    Ok(names::losses_of(from, to, line))
 }
 
 // Recasts an accepted record to the edition that is asked for.
@@ -136,7 +119,7 @@ fn recast_to(from: Edition, line: &[u8], edition: u64, buffer: &mut [u8]) -> Out
 {
     match Edition::of_number(edition) {
         Named::Known(to) => recast_in(from, to, line, buffer),
-        Named::Unknown => refused(Refusal::Unheld),
+        Named::Unknown => Err(Refusal::Unheld),
     }
 }
 
@@ -147,6 +130,6 @@ pub fn recast(line: &[u8], edition: u64, buffer: &mut [u8]) -> Outcome
 {
     match checking::check(line) {
         Answer::Accepted(from) => recast_to(from, line, edition, buffer),
-        Answer::Refused(refusal) => refused(refusal),
+        Answer::Refused(refusal) => Err(refusal),
     }
 }

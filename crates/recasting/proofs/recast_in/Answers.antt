@@ -9,7 +9,7 @@ use Rattle.recasting.proofs.recast_in.Goals as goal
 pub returns-then-buffer-length : goal.returns-then-buffer-length
 unfolding recast_to
 returns-then-buffer-length c =
-    cramped _ _ outcome_of refl (not_fitting _ _ _ _ c.length-length.ensures c.requires c.if-buffer-length.true) c.refused.ensures
+    cramped _ _ outcome_of refl (not_fitting _ _ _ _ c.length-length.ensures c.requires c.if-buffer-length.true) refl
 
 pub slice_bounds-row-end-2 : goal.slice_bounds-row-end-2
 slice_bounds-row-end-2 c = front_length c.length-length.result _ c.if-buffer-length.false

@@ -5,8 +5,8 @@ use Prim.Native.String.{String}
 use Rattle.text.specs.Bytes.{bytes_of}
 use Rattle.numerals.specs.Numerals.{placed, spelled}
 use Rattle.element_sets.specs.ElementSets.{list_of, has_element}
-use Rattle.checking.specs.declared.Answer.{Answer}
-use Rattle.refusals.specs.declared.Verdict.{Verdict}
+use Rattle.checking.specs.Check.{Answer}
+use Rattle.refusals.specs.Verdicts.{Verdict}
 use Rattle.refusals.specs.Refusals.{number_of, where_of}
 use Rattle.refusals.specs.Verdicts.{verdict_number, verdict_place}
 use Rattle.refusals.specs.Lent.{verdict_in, left_by}

@@ -1,4 +1,5 @@
 -- Demand 3: the recast of an accepted record is a record that the target edition accepts. Assumes nothing.
+use Rattle.std.specs.Prelude.{Ok}
 use mathlib.Core.Path.{◌≡◌, refl, sym, ap, ◌∙◌}
 use mathlib.Core.Logic.{⊎_elim}
 use mathlib.Core.Bool.{Bool, true, false, not, ◌&&◌, ◌||◌, true≢false}
@@ -17,7 +18,6 @@ use Rattle.layout.specs.Page.{page, element, text_of, legal_texts, may_be_blank,
 use Rattle.layout.proofs.Beyond.{last_above}
 use Rattle.layout.proofs.Elements.{blank_legal, allowed_legal}
 use Rattle.places.proofs.DigitLaws.{same_digits}
-use Rattle.checking.specs.declared.Answer.TheVariants.{Accepted}
 use Rattle.checking.specs.Check.{checked}
 use Rattle.checking.specs.Acceptable.{Acceptable}
 use Rattle.checking.proofs.Demand2Acceptance.{accepted_exactly}
@@ -113,5 +113,5 @@ module _ (from to : Edition) (xs : List ℕ) (a : Acceptable from xs) where
   acceptable = legal_record to (result from to xs a) (result_long from to xs a) every_legal (ties_kept from to xs a)
 
 -- The record is accepted, so its recast is.
-pub recast_is_accepted : (from to : Edition) (xs : List ℕ) → checked xs ≡ Accepted from → checked (recast_record from to xs) ≡ Accepted to
+pub recast_is_accepted : (from to : Edition) (xs : List ℕ) → checked xs ≡ Ok from → checked (recast_record from to xs) ≡ Ok to
 recast_is_accepted from to xs ok = (accepted_exactly (recast_record from to xs) to).1 (acceptable from to xs ((accepted_exactly xs from).0 ok))

@@ -1,5 +1,6 @@
 -- Demand 3: the loss list is exactly the elements lost, rising; the words, the count and the lowest are those of the list. Elements 1, 6 to 8, 14, 46 and 65 are
 -- never lost; to the same edition the result is the record and nothing is lost. Assumes nothing.
+use Rattle.std.specs.Prelude.{None, Option, Some}
 use mathlib.Core.Path.{◌≡◌, refl, sym, ap, ◌∙◌}
 use mathlib.Core.Logic.{◌⊎◌, ◌↔◌, ⊎_elim}
 use mathlib.Core.Bool.{Bool, true, false, not, ◌&&◌, ◌||◌, true≢false}
@@ -18,8 +19,6 @@ use Rattle.element_sets.specs.declared.ElementSet.{ElementSet}
 use Rattle.element_sets.proofs.Demand3Losses.{listed_exactly, not_listed, test_is_membership, rising, ones_are_length, lowest_is_head, empty_set, empty_list}
 use Rattle.layout.specs.declared.Edition.{Edition}
 use Rattle.layout.specs.declared.Edition.TheVariants.{One, Three, Four}
-use Rattle.layout.specs.declared.Named.{Named}
-use Rattle.layout.specs.declared.Named.TheVariants.{Known, Unknown}
 use Rattle.layout.specs.Editions.{edition_of, last_of}
 use Rattle.layout.specs.Page.{page, element, text_of, first_byte, legal_texts, may_be_blank, legal_text, legal}
 use Rattle.layout.proofs.Beyond.{last_above, text_none}
@@ -72,16 +71,16 @@ module _ (from to : Edition) (xs : List ℕ) (a : Acceptable from xs) where
       (either_half _ _ h)
 
 -- the character that names an edition
-abbrev digit_of_named : Named → ℕ
-digit_of_named Unknown = 0
-digit_of_named (Known ed) = digit_of ed
+abbrev digit_of_named : Option Edition → ℕ
+digit_of_named None = 0
+digit_of_named (Some ed) = digit_of ed
 
 some : (ed : Edition) → 0 ≡ digit_of ed → ⊥
 some One e = omega arith
 some Three e = omega arith
 some Four e = omega arith
 
-names_digit : (ed : Edition) (b : ℕ) → edition_of b ≡ Known ed → b ≡ digit_of ed
+names_digit : (ed : Edition) (b : ℕ) → edition_of b ≡ Some ed → b ≡ digit_of ed
 names_digit ed b e = by (eqb b 49) (eqb b 51) (eqb b 52) refl refl refl
   where
     digit : digit_of_named (edition_of b) ≡ digit_of ed

@@ -1,5 +1,6 @@
 -- Demand 3, of the call: an accepted record with an edition that is held and room for it is recast, and what stands in the lent buffer then is what demand 3 says. A
 -- refused call changes no byte and has an empty loss set; an outcome and a buffer fit exactly where they are the ones answered. Assumes nothing.
+use Rattle.std.specs.Prelude.{Err, None, Ok, Option, Some}
 use mathlib.Core.Path.{◌≡◌, refl, sym, ap, ◌∙◌}
 use mathlib.Core.Logic.{◌⊎◌, ◌↔◌}
 use mathlib.Core.Bool.{Bool, true, false}
@@ -15,20 +16,15 @@ use Rattle.element_sets.specs.ElementSets.{no_elements, set_of, list_of}
 use Rattle.element_sets.specs.declared.ElementSet.{ElementSet}
 use Rattle.element_sets.proofs.Demand3Losses.{same_losses}
 use Rattle.layout.specs.declared.Edition.{Edition}
-use Rattle.layout.specs.declared.Named.{Named}
-use Rattle.layout.specs.declared.Named.TheVariants.{Known, Unknown}
 use Rattle.refusals.specs.declared.Refusal.{Refusal}
 use Rattle.refusals.specs.declared.Refusal.TheVariants.{Unheld, Room}
 use Rattle.refusals.specs.Lent.{Call, refusing, writing, in_room, verdict_of, front_of, overwritten, left_by}
-use Rattle.refusals.specs.declared.Verdict.TheVariants.{Fine}
-use Rattle.refusals.specs.declared.Verdict.TheVariants as Verdict
 use Rattle.refusals.proofs.LentLaws as Lent
 use Rattle.refusals.proofs.LentLaws.{has_room, lacks_room, Wrote, fine_means}
 use Rattle.layout.specs.Editions.{asked, length_of}
 use Rattle.layout.specs.Page.{text_of}
 use Rattle.ties.specs.Ties.{there}
-use Rattle.checking.specs.declared.Answer.{Answer}
-use Rattle.checking.specs.declared.Answer.TheVariants.{Accepted, Refused}
+use Rattle.checking.specs.Check.{Answer}
 use Rattle.checking.specs.Check.{checked}
 use Rattle.checking.specs.Acceptable.{Acceptable}
 use Rattle.checking.proofs.Demand1Refusals.{fits, only_one}
@@ -55,10 +51,10 @@ front to xs edition before = take (length_of to) (after xs edition before)
 pub record Success (xs : List ℕ) (edition : ℕ) (before : List ℕ) (losses : ElementSet) : Type 0 where
   pub from : Edition
   pub to : Edition
-  pub was : checked xs ≡ Accepted from
-  pub names : asked edition ≡ Known to
+  pub was : checked xs ≡ Ok from
+  pub names : asked edition ≡ Some to
   -- the target edition accepts it
-  pub accepted : checked (front to xs edition before) ≡ Accepted to
+  pub accepted : checked (front to xs edition before) ≡ Ok to
   -- column 111 is the target's digit; every other element has its old meaning or is blank, and is blank exactly when no legal text of the target has its meaning
   pub version : text_of 65 (front to xs edition before) ≡ digit_of to ∷ []
   pub means : (e : ℕ) → 1 ≤ e → e ≤ 101 → eqb e 65 ≡ false →
@@ -71,7 +67,7 @@ pub record Success (xs : List ℕ) (edition : ℕ) (before : List ℕ) (losses :
   -- the rest of the buffer is as it was
   pub rest : drop (length_of to) (after xs edition before) ≡ drop (length_of to) before
 
-module _ (from to : Edition) (xs : List ℕ) (edition : ℕ) (before : List ℕ) (ok : checked xs ≡ Accepted from) (names : asked edition ≡ Known to) where
+module _ (from to : Edition) (xs : List ℕ) (edition : ℕ) (before : List ℕ) (ok : checked xs ≡ Ok from) (names : asked edition ≡ Some to) where
   fine : Acceptable from xs
   fine = (accepted_exactly xs from).0 ok
 
@@ -122,14 +118,14 @@ pub success : (xs : List ℕ) (edition : ℕ) (before : List ℕ) (losses : Elem
 unfolding recast_after recast_to
 success xs edition before losses d = by (checked xs) refl (asked edition) refl (fine_means (length before) (recast_of xs edition) (fine (in_room (length before) (recast_of xs edition)) d))
   where
-    fine : (c : Call ElementSet) → outcome_of c ≡ done losses → verdict_of c ≡ Fine
+    fine : (c : Call ElementSet) → outcome_of c ≡ done losses → verdict_of c ≡ (Ok tt)
     fine (refusing r) e = cc
     fine (writing a bytes) e = refl
 
-    by : (c : Answer) → checked xs ≡ c → (n : Named) → asked edition ≡ n → Wrote (recast_of xs edition) (length before) → Success xs edition before losses
-    by (Refused r) e n f w = let g : refusing r ≡ writing w.says w.bytes = rw e at w.is in let z : ◌≡◌ {A = ℕ} 0 1 = cc in absurd (omega arith)
-    by (Accepted from) e Unknown f w = let g : refusing Unheld ≡ writing w.says w.bytes = rw (e, f) at w.is in let z : ◌≡◌ {A = ℕ} 0 1 = cc in absurd (omega arith)
-    by (Accepted from) e (Known to) f w =
+    by : (c : Answer) → checked xs ≡ c → (n : Option Edition) → asked edition ≡ n → Wrote (recast_of xs edition) (length before) → Success xs edition before losses
+    by (Err r) e n f w = let g : refusing r ≡ writing w.says w.bytes = rw e at w.is in let z : ◌≡◌ {A = ℕ} 0 1 = cc in absurd (omega arith)
+    by (Ok from) e None f w = let g : refusing Unheld ≡ writing w.says w.bytes = rw (e, f) at w.is in let z : ◌≡◌ {A = ℕ} 0 1 = cc in absurd (omega arith)
+    by (Ok from) e (Some to) f w =
         let g : writing (set_of (lost_at from to xs)) (recast_record from to xs) ≡ writing w.says w.bytes = rw (e, f) at w.is in
         let bytes : recast_record from to xs ≡ w.bytes = cc in
         let room : length_of to ≤ length before = omega (arith, w.fits, ap length bytes, long from to xs edition before e f) in
@@ -144,8 +140,8 @@ refused_untouched xs edition before r e =
     let c = in_room (length before) (recast_of xs edition) in
     (Lent.refused_untouched (recast_of xs edition) before r (verdict c e), none c e)
   where
-    verdict : (c : Call ElementSet) → outcome_of c ≡ unrecast r → verdict_of c ≡ Verdict.Refused r
-    verdict (refusing s) f = let same : s ≡ r = cc in ap Verdict.Refused same
+    verdict : (c : Call ElementSet) → outcome_of c ≡ unrecast r → verdict_of c ≡ Err r
+    verdict (refusing s) f = let same : s ≡ r = cc in ap Err same
     verdict (writing a bytes) f = cc
 
     none : (c : Call ElementSet) → outcome_of c ≡ unrecast r → losses_in c ≡ no_elements
@@ -175,7 +171,7 @@ module _ (xs : List ℕ) (edition : ℕ) (before : List ℕ) where
 
   one : (o : Outcome) (left : List ℕ) → Fits xs edition before o left → Is o left
   unfolding recast_after recast_to in_room
-  one o left (refused r f) = let c : checked xs ≡ Refused r = only_one xs (checked xs) (Refused r) (fits xs) f in rw c (refl, refl)
+  one o left (refused r f) = let c : checked xs ≡ Err r = only_one xs (checked xs) (Err r) (fits xs) f in rw c (refl, refl)
   one o left (unheld from a n) = let c = (accepted_exactly xs from).1 a in rw (c, n) (refl, refl)
   one o left (cramped from to a n h) =
       let c = lacking from to xs edition before ((accepted_exactly xs from).1 a) n h in
@@ -189,7 +185,7 @@ module _ (xs : List ℕ) (edition : ℕ) (before : List ℕ) where
   those : (from to : Edition) (a : Acceptable from xs) → Names from to xs (set_of (lost_at from to xs))
   those from to a = record { test = lost_at from to xs; words = refl; version = Never.version from to xs a; exactly = lost_exactly from to xs a }
 
-  in_target : (from to : Edition) → checked xs ≡ Accepted from → asked edition ≡ Known to → (x : Bool) → leb (length_of to) (length before) ≡ x →
+  in_target : (from to : Edition) → checked xs ≡ Ok from → asked edition ≡ Some to → (x : Bool) → leb (length_of to) (length before) ≡ x →
       Fits xs edition before (outcome_in (length before) (recast_of xs edition)) (after xs edition before)
   in_target from to e f true h =
       let a = (accepted_exactly xs from).0 e in
@@ -199,11 +195,11 @@ module _ (xs : List ℕ) (edition : ℕ) (before : List ℕ) where
       let tight = leb-false (length_of to) (length before) h in
       rw (lacking from to xs edition before e f tight) (cramped from to ((accepted_exactly xs from).0 e) f tight)
 
-  answered : (c : Answer) → checked xs ≡ c → (n : Named) → asked edition ≡ n → Fits xs edition before (outcome_in (length before) (recast_of xs edition)) (after xs edition before)
+  answered : (c : Answer) → checked xs ≡ c → (n : Option Edition) → asked edition ≡ n → Fits xs edition before (outcome_in (length before) (recast_of xs edition)) (after xs edition before)
   unfolding recast_after recast_to in_room
-  answered (Refused r) e n f = rw e (refused r (rw e at (fits xs)))
-  answered (Accepted from) e Unknown f = rw (e, f) (unheld from ((accepted_exactly xs from).0 e) f)
-  answered (Accepted from) e (Known to) f = in_target from to e f (leb (length_of to) (length before)) refl
+  answered (Err r) e n f = rw e (refused r (rw e at (fits xs)))
+  answered (Ok from) e None f = rw (e, f) (unheld from ((accepted_exactly xs from).0 e) f)
+  answered (Ok from) e (Some to) f = in_target from to e f (leb (length_of to) (length before)) refl
 
   pub fits_exactly : (o : Outcome) (left : List ℕ) → Fits xs edition before o left ↔ Is o left
   fits_exactly o left = (one o left, λ i. rw (i.0, i.1) (answered (checked xs) refl (asked edition) refl))

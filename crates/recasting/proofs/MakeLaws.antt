@@ -1,4 +1,5 @@
 -- The row that is made: the elements lost are blank, columns 12 and 111 are set, and every other element keeps its characters. Assumes nothing.
+use Rattle.std.specs.Prelude.{Ok}
 use mathlib.Core.Path.{◌≡◌, refl, sym, ap, ◌∙◌}
 use mathlib.Core.Bool.{Bool, true, false, cond}
 use mathlib.Core.List.{List, [], ◌∷◌}
@@ -20,7 +21,6 @@ use Rattle.layout.proofs.Columns.{start_next, start_rises}
 use Rattle.layout.proofs.Elements.{last_below}
 use Rattle.layout.proofs.Parts.{one_byte}
 use Rattle.layout.proofs.RecordLaws.{most, ends, begins, record_long, record_text, same_record, text_long, part_of_front}
-use Rattle.checking.specs.declared.Answer.TheVariants.{Accepted}
 use Rattle.checking.specs.Check.{checked}
 use Rattle.checking.specs.Acceptable.{Acceptable}
 use Rattle.checking.proofs.Demand2Acceptance.{accepted_exactly}
@@ -80,7 +80,7 @@ module _ (from to : Edition) (xs : List ℕ) (full : length xs ≡ length_of fro
       by false false false f g = wide_text (widened xs) (widened_long from xs full) e
 
 -- the record in the target's columns, blanked and set
-module _ (from to : Edition) (xs : List ℕ) (ok : checked xs ≡ Accepted from) where
+module _ (from to : Edition) (xs : List ℕ) (ok : checked xs ≡ Ok from) where
   pub acceptable : Acceptable from xs
   acceptable = (accepted_exactly xs from).0 ok
 

@@ -1,6 +1,7 @@
 -- Request 13: a buyer sends a recast record home, and it is recast to where it began. For every accepted record, each of the nine pairs of editions and lent buffers with room: the
 -- second recast loses nothing, and each element then has its first characters, or is blank and was in the first loss set, or is column 12 with another digit for the same place.
 -- Another digit comes on the equator alone, or where the longitude says 0.0, 90.0 or 180.0. Assumes nothing.
+use Rattle.std.specs.Prelude.{Ok}
 use mathlib.Core.Path.{◌≡◌, refl, sym, ap, ◌∙◌}
 use mathlib.Core.Logic.{inl, inr}
 use mathlib.Core.Bool.{Bool, true, false, true≢false}
@@ -28,7 +29,6 @@ use Rattle.ties.proofs.Together.{latitude_alike, longitude_alike}
 use Rattle.places.specs.declared.Place.{Place}
 use Rattle.places.specs.Column12.{lowest_digit, crosses}
 use Rattle.places.proofs.Request13Digits.{Edge, home_lowest, another_only}
-use Rattle.checking.specs.declared.Answer.TheVariants.{Accepted}
 use Rattle.checking.specs.Check.{checked}
 use Rattle.checking.specs.Acceptable.{Acceptable}
 use Rattle.checking.proofs.Demand2Acceptance.{accepted_exactly}
@@ -157,14 +157,14 @@ module _ (from to : Edition) (xs : List ℕ) (a : Acceptable from xs) where
       by (another_digit e d) = absurd (n d.edge)
 
 -- of the calls
-module _ (from to : Edition) (xs outward homeward : List ℕ) (ok : checked xs ≡ Accepted from) (room : length_of to ≤ length outward) (room-home : length_of from ≤ length homeward) where
+module _ (from to : Edition) (xs outward homeward : List ℕ) (ok : checked xs ≡ Ok from) (room : length_of to ≤ length outward) (room-home : length_of from ≤ length homeward) where
   fine : Acceptable from xs
   fine = (accepted_exactly xs from).0 ok
 
   is_there : there to xs outward ≡ recast_record from to xs
   is_there = is_front from to xs (edition_number to) outward ok (by_number to) room
 
-  accepted_there : checked (there to xs outward) ≡ Accepted to
+  accepted_there : checked (there to xs outward) ≡ Ok to
   accepted_there = ap checked is_there ∙ recast_is_accepted from to xs ok
 
   is_back : back from to xs outward homeward ≡ Returns.home from to xs fine
@@ -201,7 +201,7 @@ module _ (from to : Edition) (xs outward homeward : List ℕ) (ok : checked xs �
       is_back ∙ Returns.comes_whole from to xs fine (none_lost (lost_at from to xs) none) (six_again from to xs fine n)
 
 -- there, back and there again is there, and the third recast loses nothing
-pub there_again : (from to : Edition) (xs outward homeward again : List ℕ) → checked xs ≡ Accepted from → length_of to ≤ length outward → length_of from ≤ length homeward → length_of to ≤ length again →
+pub there_again : (from to : Edition) (xs outward homeward again : List ℕ) → checked xs ≡ Ok from → length_of to ≤ length outward → length_of from ≤ length homeward → length_of to ≤ length again →
     (outcome_in (length again) (recast_of (back from to xs outward homeward) (edition_number to)) ≡ done no_elements) × (there to (back from to xs outward homeward) again ≡ there to xs outward)
 there_again from to xs outward homeward again ok room room-home room-again =
     let accepted = accepted_there from to xs outward homeward ok room room-home in

@@ -1,17 +1,15 @@
 -- What an outcome and the lent buffer afterwards must be to fit a record, an edition number and the buffer before: refusals 1 to 9 in this order, and the
 -- recast record said element by element, with no word of how it is made. Assumes nothing.
-use Rattle.std.specs.Prelude.{ℕ, ◌+◌, ◌<◌, ◌≤◌, ◌≡◌, ◌⊎◌, ◌↔◌, Bool, true, false, List, [], ◌∷◌, eqb, length}
+use Rattle.std.specs.Prelude.{ℕ, ◌+◌, ◌<◌, ◌≤◌, ◌≡◌, ◌⊎◌, ◌↔◌, Bool, true, false, List, [], ◌∷◌, eqb, length, Err, None, Some}
 use Rattle.text.specs.Bytes.{blank, number}
 use Rattle.element_sets.specs.ElementSets.{set_of}
 use Rattle.element_sets.specs.declared.ElementSet.{ElementSet}
 use Rattle.layout.specs.declared.Edition.{Edition}
-use Rattle.layout.specs.declared.Named.TheVariants.{Known, Unknown}
 use Rattle.refusals.specs.declared.Refusal.{Refusal}
 use Rattle.refusals.specs.declared.Refusal.TheVariants.{Unheld, Room}
 use Rattle.layout.specs.Editions.{asked, length_of, last_of, last_element}
 use Rattle.refusals.specs.Lent.{overwritten}
 use Rattle.layout.specs.Page.{text_of}
-use Rattle.checking.specs.declared.Answer.TheVariants.{Refused}
 use Rattle.checking.specs.Acceptable.{Acceptable}
 use Rattle.checking.specs.Acceptable as Checking
 use Rattle.places.specs.Column12.{suits, crosses}
@@ -49,8 +47,8 @@ pub record Names (from to : Edition) (xs : List ℕ) (losses : ElementSet) : Typ
   pub exactly : (e : ℕ) → 1 ≤ e → e ≤ last_element → eqb e 65 ≡ false → (test e ≡ true) ↔ Lost from to xs e
 
 pub data Fits (xs : List ℕ) (edition : ℕ) (before : List ℕ) : Outcome → List ℕ → Type 0 where
-  refused : (r : Refusal) → Checking.Fits xs (Refused r) → Fits xs edition before (unrecast r) before
-  unheld : (from : Edition) → Acceptable from xs → asked edition ≡ Unknown → Fits xs edition before (unrecast Unheld) before
-  cramped : (from to : Edition) → Acceptable from xs → asked edition ≡ Known to → length before < length_of to → Fits xs edition before (unrecast Room) before
-  recast : (from to : Edition) → Acceptable from xs → asked edition ≡ Known to → length_of to ≤ length before → (ys : List ℕ) → Recasts from to xs ys → (losses : ElementSet) → Names from to xs losses →
+  refused : (r : Refusal) → Checking.Fits xs (Err r) → Fits xs edition before (unrecast r) before
+  unheld : (from : Edition) → Acceptable from xs → asked edition ≡ None → Fits xs edition before (unrecast Unheld) before
+  cramped : (from to : Edition) → Acceptable from xs → asked edition ≡ Some to → length before < length_of to → Fits xs edition before (unrecast Room) before
+  recast : (from to : Edition) → Acceptable from xs → asked edition ≡ Some to → length_of to ≤ length before → (ys : List ℕ) → Recasts from to xs ys → (losses : ElementSet) → Names from to xs losses →
       Fits xs edition before (done losses) (overwritten ys before)

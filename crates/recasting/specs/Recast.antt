@@ -1,13 +1,11 @@
 -- What recasting a record to another edition comes to: rules 1 to 8, or the record in that edition and the elements lost. Room, 9, is the last rule of every call
 -- with a lent buffer. Assumes nothing.
-use Rattle.std.specs.Prelude.{ℕ, ◌+◌, ◌-◌, cond, ◌&&◌, List, [], ◌∷◌, ◌++◌, eqb, length, get_or, Result, Ok, Err}
+use Rattle.std.specs.Prelude.{ℕ, ◌+◌, ◌-◌, cond, ◌&&◌, List, [], ◌∷◌, ◌++◌, eqb, length, get_or, Result, Ok, Err, None, Option, Some}
 use Rattle.text.specs.Bytes.{number}
 use Rattle.numerals.specs.Numerals.{spell, in_blanks}
 use Rattle.element_sets.specs.ElementSets.{no_elements, set_of}
 use Rattle.element_sets.specs.declared.ElementSet.{ElementSet}
 use Rattle.layout.specs.declared.Edition.{Edition}
-use Rattle.layout.specs.declared.Named.{Named}
-use Rattle.layout.specs.declared.Named.TheVariants.{Known, Unknown}
 use Rattle.refusals.specs.declared.Refusal.{Refusal}
 use Rattle.refusals.specs.declared.Refusal.TheVariants.{Unheld}
 use Rattle.refusals.specs.Lent.{Call, refusing, writing, in_room}
@@ -15,8 +13,7 @@ use Rattle.layout.specs.Editions.{asked, edition_number, longest_record}
 use Rattle.layout.specs.Page.{width_of, text_of}
 use Rattle.layout.specs.Records.{record_from}
 use Rattle.ties.specs.Ties.{there}
-use Rattle.checking.specs.declared.Answer.{Answer}
-use Rattle.checking.specs.declared.Answer.TheVariants.{Accepted, Refused}
+use Rattle.checking.specs.Check.{Answer}
 use Rattle.checking.specs.Check.{checked}
 use Rattle.places.specs.Column12.{lowest_digit, crosses}
 use Rattle.meanings.specs.Kept.{lost_at}
@@ -51,14 +48,14 @@ unfoldable pub recast_record : Edition → Edition → List ℕ → List ℕ
 recast_record from to xs = record_from to (recast_text from to xs)
 
 -- 8: the edition that is asked for
-unfoldable pub recast_to : Edition → Named → List ℕ → Call ElementSet
-recast_to from Unknown xs = refusing Unheld
-recast_to from (Known to) xs = writing (set_of (lost_at from to xs)) (recast_record from to xs)
+unfoldable pub recast_to : Edition → Option Edition → List ℕ → Call ElementSet
+recast_to from None xs = refusing Unheld
+recast_to from (Some to) xs = writing (set_of (lost_at from to xs)) (recast_record from to xs)
 
 -- 1 to 7: as check answers
 unfoldable pub recast_after : Answer → List ℕ → ℕ → Call ElementSet
-recast_after (Refused r) xs edition = refusing r
-recast_after (Accepted from) xs edition = recast_to from (asked edition) xs
+recast_after (Err r) xs edition = refusing r
+recast_after (Ok from) xs edition = recast_to from (asked edition) xs
 
 abbrev pub recast_of : List ℕ → ℕ → Call ElementSet
 recast_of xs edition = recast_after (checked xs) xs edition

@@ -13,9 +13,8 @@ ghost use Rattle.checking.specs.Check.{checked};
 ghost use Rattle.recasting.specs.Recast.{hemisphere, digit_of, widened, recast_record, recast_to, recast_of, outcome_of};
 
 use blanking::names;
-use checking::Answer;
 use element_sets::ElementSet;
-use layout::{Edition, Named, page, widths};
+use layout::{Edition, page, widths};
 use refusals::Refusal;
 
 // What recasting a record answers: the elements lost, or why it is refused.
@@ -48,7 +47,7 @@ fn hemisphere_of(from: Edition, to: Edition, line: &[u8]) -> u8
 fn digit_of(edition: Edition) -> u8
     ensures { result ≡ digit_of edition }
 {
-    (48 + edition.number()) as u8
+    b'0' + edition.number() as u8
 }
 
 // Fills the columns that edition 1 does not have: from the record, or with blanks where it is of edition 1.
@@ -88,7 +87,7 @@ fn put(row: &mut [u8], e: usize, b: u8)
 
 // Makes the recast record in a row of the target's length.
 fn make(from: Edition, to: Edition, line: &[u8], row: &mut [u8])
-    requires { (checked line.now ≡ Answer.Accepted from) × (length row.old ≡ length_of to) }
+    requires { (checked line.now ≡ Ok from) × (length row.old ≡ length_of to) }
     ensures { row.new ≡ recast_record from to line.now }
 {
     fill(from, to, line, row);
@@ -100,8 +99,8 @@ fn make(from: Edition, to: Edition, line: &[u8], row: &mut [u8])
 // Recasts an accepted record to an edition that is held, straight into the lent buffer: no byte of it is
 // written before every refusal was asked.
 fn recast_in(from: Edition, to: Edition, line: &[u8], buffer: &mut [u8]) -> Outcome
-    requires { checked line.now ≡ Answer.Accepted from }
-    ensures { Answers outcome_of (recast_to from (Named.Known to) line.now) buffer.old buffer.new result }
+    requires { checked line.now ≡ Ok from }
+    ensures { Answers outcome_of (recast_to from (Some to) line.now) buffer.old buffer.new result }
 {
     let length = to.length();
     if buffer.len() < length {
@@ -112,24 +111,12 @@ fn recast_in(from: Edition, to: Edition, line: &[u8], buffer: &mut [u8]) -> Outc
     Ok(names::losses_of(from, to, line))
 }
 
-// Recasts an accepted record to the edition that is asked for.
-fn recast_to(from: Edition, line: &[u8], edition: u64, buffer: &mut [u8]) -> Outcome
-    requires { checked line.now ≡ Answer.Accepted from }
-    ensures { Answers outcome_of (recast_to from (asked edition) line.now) buffer.old buffer.new result }
-{
-    match Edition::of_number(edition) {
-        Named::Known(to) => recast_in(from, to, line, buffer),
-        Named::Unknown => Err(Refusal::Unheld),
-    }
-}
-
 // Recasts a record: any bytes, any edition number, any buffer. Success writes the first 131 or 159
 // bytes; a refusal writes none.
 pub fn recast(line: &[u8], edition: u64, buffer: &mut [u8]) -> Outcome
     ensures { Answers outcome_of (recast_of line.now edition) buffer.old buffer.new result }
 {
-    match checking::check(line) {
-        Answer::Accepted(from) => recast_to(from, line, edition, buffer),
-        Answer::Refused(refusal) => Err(refusal),
-    }
+    let from = checking::check(line)?;
+    let to = Edition::of_number(edition).ok_or(Refusal::Unheld)?;
+    recast_in(from, to, line, buffer)
 }

@@ -11,3 +11,4 @@ pub mod RecordLaws
 pub mod Alike
 pub mod Lacking
 pub mod Holding
+pub mod Finds

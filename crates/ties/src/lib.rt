@@ -6,6 +6,7 @@
 
 ghost use Rattle.std.specs.Prelude.{◌≡◌, not, ◌&&◌, ◌≤◌, eqb, length};
 ghost use Rattle.std.specs.Bool.{beq};
+ghost use Rattle.text.specs.First.{nonzero};
 ghost use Rattle.ties.specs.Ties.{there, place_tie, octant_tie, minus, sign_tie, last_digit, tenths_fit, measured_fit, wind_tie, tie, first_broken};
 
 use layout::{Edition, page};
@@ -164,16 +165,9 @@ fn holds(edition: Edition, line: &[u8], k: usize) -> bool
     }
 }
 
-// The lowest tie that is broken, or 0.
-pub fn first_broken(edition: Edition, line: &[u8]) -> usize
-    ensures { result ≡ first_broken edition line.now }
+// The lowest tie that is broken, if there is one.
+pub fn first_broken(edition: Edition, line: &[u8]) -> Option<usize>
+    ensures { result ≡ nonzero (first_broken edition line.now) }
 {
-    let mut k = 1;
-    while k <= LAST {
-        if !holds(edition, line, k) {
-            return k;
-        }
-        k += 1;
-    }
-    0
+    (1..=LAST).find(|&k| !holds(edition, line, k))
 }

@@ -5,8 +5,9 @@ use Prim.Native.Nat.{ℕ, ◌+◌, ◌≤◌}
 use native.Mathlib.Omega.{arith}
 use lib.ListN.{length, take, length-append}
 use Rattle.numerals.specs.Numerals.{placed}
-use Rattle.numerals.proofs.PlacedLaws.{placed_front, placed_none, placed_length, placed_twice}
-use Rattle.wording.specs.Puts.{Puts}
+use Rattle.numerals.proofs.PlacedLaws.{placed_front, placed_none, placed_twice}
+use Rattle.wording.specs.declared.sheet.Sheet.{Sheet}
+use Rattle.wording.specs.Puts.{Puts, Adds}
 
 -- a text, and another right after it
 pub also : {t u : List ℕ} {at : ℕ} {before after last : List ℕ} {next end : ℕ} → Puts t at before after next → Puts u next after last end → end ≤ length before →
@@ -32,31 +33,58 @@ front {text} {before} {after} {end} p =
 pub nothing : (at : ℕ) (before : List ℕ) → Puts [] at before before at
 nothing at before = record { stands = sym (placed_none at before); ends = omega arith }
 
--- Some of a text is put, and `rest` is left of it: putting the rest gives what putting the whole gives.
-pub record Left (whole : List ℕ) (at : ℕ) (before rest : List ℕ) (end : ℕ) (now : List ℕ) : Type 0 where
-  pub placing : placed end rest now ≡ placed at whole before
-  pub ending : end + length rest ≡ at + length whole
-  pub long : length now ≡ length before
+-- a text on a sheet, and another right after it; there is no need to look into a sheet for that
+pub then : {t u : List ℕ} {m n : ℕ} {before between after : Sheet} → Adds t m before between → Adds u n between after → Adds (t ++ u) (m + n) before after
+then {after = after} p q =
+    record {
+      same_buffer = q.same_buffer ∙ p.same_buffer;
+      same_length = q.same_length ∙ p.same_length;
+      puts = also p.puts q.puts (omega (arith, p.same_length, q.same_length, after.within));
+      upper_bound = omega (arith, p.upper_bound, q.upper_bound);
+    }
 
-pub left_all : (whole : List ℕ) (at : ℕ) (before : List ℕ) → Left whole at before whole at before
-left_all whole at before = record { placing = refl; ending = refl; long = refl }
+-- nothing is put on a sheet
+pub unchanged : (s : Sheet) → Adds [] 0 s s
+unchanged s = record { same_buffer = refl; same_length = refl; puts = nothing _ _; upper_bound = omega arith }
 
-module _ {whole : List ℕ} {at : ℕ} {before : List ℕ} {end : ℕ} {now : List ℕ} where
-  pub left_put : {t rest left : List ℕ} {next : ℕ} {later : List ℕ} → Left whole at before left end now → left ≡ t ++ rest → Puts t end now later next →
-      at + length whole ≤ length before → Left whole at before rest next later
-  left_put {t} {rest} {left} {next} {later} l e p h =
+-- a text on a sheet by another name, and within a larger bound
+pub said_as : {t u : List ℕ} {m n : ℕ} {before after : Sheet} → t ≡ u → m ≤ n → Adds t m before after → Adds u n before after
+said_as e l p = record { same_buffer = p.same_buffer; same_length = p.same_length; puts = renamed e p.puts; upper_bound = omega (arith, p.upper_bound) }
+
+-- within a larger bound
+pub within : {t : List ℕ} {m n : ℕ} {before after : Sheet} → m ≤ n → Adds t m before after → Adds t n before after
+within l p = said_as refl l p
+
+-- Some of a text is put on a sheet, and `rest` is left of it: putting the rest gives what putting the whole gives.
+pub record Left (whole : List ℕ) (before : Sheet) (rest : List ℕ) (now : Sheet) : Type 0 where
+  pub same_buffer : now.out.ghost_name ≡ before.out.ghost_name
+  pub same_length : length now.out.now ≡ length before.out.now
+  pub placing : placed now.end rest now.out.now ≡ placed before.end whole before.out.now
+  pub ending : now.end + length rest ≡ before.end + length whole
+
+pub left_all : (whole : List ℕ) (s : Sheet) → Left whole s whole s
+left_all whole s = record { same_buffer = refl; same_length = refl; placing = refl; ending = refl }
+
+module _ {whole : List ℕ} {before now : Sheet} where
+  pub left_put : {t rest left : List ℕ} {m : ℕ} {later : Sheet} → Left whole before left now → left ≡ t ++ rest → Adds t m now later → before.end + length whole ≤ length before.out.now →
+      Left whole before rest later
+  left_put {t} {rest} {left} {later = later} l e p h =
       let sum : length left ≡ length t + length rest = ap length e ∙ length-append t rest in
-      let room : end + length t + length rest ≤ length now = omega (arith, l.ending, l.long) in
+      let room : now.end + length t + length rest ≤ length now.out.now = omega (arith, l.ending, l.same_length) in
       record {
-        placing = rw (p.ends, p.stands) (placed_twice end t rest now room ∙ ap (λ (s : List ℕ). placed end s now) (sym e) ∙ l.placing);
-        ending = omega (arith, p.ends, l.ending);
-        long = ap length p.stands ∙ placed_length end t now (omega arith) ∙ l.long;
+        same_buffer = p.same_buffer ∙ l.same_buffer;
+        same_length = p.same_length ∙ l.same_length;
+        placing = rw (p.puts.ends, p.puts.stands) (placed_twice now.end t rest now.out.now room ∙ ap (λ (s : List ℕ). placed now.end s now.out.now) (sym e) ∙ l.placing);
+        ending = omega (arith, p.puts.ends, l.ending);
       }
 
-  pub left_end : {left : List ℕ} → Left whole at before left end now → left ≡ [] → Puts whole at before now end
+  pub left_end : {left : List ℕ} → Left whole before left now → left ≡ [] → Adds whole (length whole) before now
   left_end {left} l e =
       let none : length left ≡ 0 = ap length e in
+      let ends : now.end ≡ before.end + length whole = omega (arith, l.ending) in
       record {
-        stands = sym (placed_none end now) ∙ ap (λ (s : List ℕ). placed end s now) (sym e) ∙ l.placing;
-        ends = omega (arith, l.ending);
+        same_buffer = l.same_buffer;
+        same_length = l.same_length;
+        puts = record { stands = sym (placed_none now.end now.out.now) ∙ ap (λ (s : List ℕ). placed now.end s now.out.now) (sym e) ∙ l.placing; ends = ends };
+        upper_bound = omega (arith, ends);
       }

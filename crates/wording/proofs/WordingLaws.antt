@@ -1,42 +1,25 @@
--- How long a number is in decimal digits, and the loops that put a text and a number. Assumes nothing.
+-- How long a number is in decimal digits, and the loop that counts them. Assumes nothing.
 use mathlib.Core.Path.{◌≡◌, refl, sym, ap, ◌∙◌}
-use mathlib.Core.Bool.{Bool, true, false}
-use mathlib.Core.List.{List, [], ◌∷◌, ◌++◌, append_assoc}
+use mathlib.Core.Bool.{Bool, true, false, true≢false}
+use mathlib.Core.List.{List, [], ◌∷◌, ◌++◌}
 use Prim.Native.Nat.{ℕ, zero, suc, ◌+◌, ◌-◌, ◌/◌, ◌%◌, ◌^◌, ◌<◌, ◌≤◌}
-use native.Mathlib.Nat.{add-zero, zero-add, div-lt_iff_lt-mul, mod-eq_of_lt, pow-suc}
+use native.Mathlib.Nat.{zero-add, div-lt_iff_lt-mul, mod-eq_of_lt, pow-suc}
 use native.Mathlib.Numerals.{add-one}
 use native.Mathlib.Omega.{arith}
 use borrow.Author.Tests.{ltb-true, ltb-false, lt-ltb, le-ltb}
 use lib.Dec.{ltb, lit<}
-use lib.ListN.{length, get_or, drop, set, length-append, drop_of_length-le}
-use lib.Seq.{take-suc-set, drop-set-lt, drop-cons}
-use Rattle.numerals.proofs.PlacedLaws.{placed_none}
-use Rattle.numerals.specs.Numerals.{spelled, placed}
+use lib.ListN.{length, length-append}
+use Rattle.numerals.specs.Numerals.{spelled}
 use Rattle.text.specs.Bytes.{bytes_of}
-use Rattle.signs.specs.Signed.{negative}
-use lib.IntN.{ℤ, nat_abs}
+use lib.IntN.{ℤ, pos, negsuc, nat_abs}
+use lib.Signed.{lt_z}
+use mir.Syntax.{w64}
+use mir.Val.{SFits, to_z, of_z}
+use mir.Facts.{to_z-of_z}
 use Rattle.wording.specs.Wording.{decimal_from, decimal, numbered, signed_decimal}
-use Rattle.wording.specs.Puts.{Puts}
-
--- one byte stored, and the others placed after it
-place_first : (at b : ℕ) (s before : List ℕ) → at < length before → placed (suc at) s (set before at b) ≡ placed at (b ∷ s) before
-place_first at b s before h =
-    let longer : at + length (b ∷ s) ≡ suc at + length s = omega arith in
-    rw (longer, take-suc-set before at b h, drop-set-lt (suc at + length s) before at b (omega arith)) (simp append_assoc)
-
--- the start of the loop that puts a text, a turn of it, and its end
-pub text_starts : (at : ℕ) (text out : List ℕ) → placed (at + 0) (drop 0 text) out ≡ placed at text out
-text_starts at text out = rw (add-zero at)
-
-module _ (at : ℕ) (text : List ℕ) (i : ℕ) (out : List ℕ) where
-  pub text_turn : i < length text → at + i < length out →
-      placed (at + (i + 1)) (drop (i + 1) text) (set out (at + i) (get_or text i 0)) ≡ placed (at + i) (drop i text) out
-  text_turn h l =
-      let next : at + (i + 1) ≡ suc (at + i) = omega arith in
-      rw (next, add-one i, drop-cons text i 0 h) (place_first (at + i) (get_or text i 0) (drop (suc i) text) out l)
-
-  pub text_end : {before : List ℕ} → length text ≤ i → i ≤ length text → placed (at + i) (drop i text) out ≡ placed at text before → Puts text at before out (at + i)
-  text_end h l p = record { stands = sym (placed_none (at + i) out) ∙ (rw (drop_of_length-le text h) at p); ends = omega arith }
+use Rattle.wording.specs.declared.sheet.Sheet.{Sheet}
+use Rattle.wording.specs.Puts.{Adds}
+use Rattle.wording.proofs.PutLaws.{said_as}
 
 -- a number of one digit, and one of more
 module _ (k n : ℕ) where
@@ -104,16 +87,9 @@ pub decimal_spelled : (n : ℕ) → decimal n ≡ spelled 10 48 (length (decimal
 unfolding decimal
 decimal_spelled n = spelled_from 20 n
 
--- where as many digits are spelled as a number has, the number is put
-pub number_put : (at width n : ℕ) (before : List ℕ) {after : List ℕ} → width ≡ length (decimal n) → after ≡ placed at (spelled 10 48 width n) before →
-    Puts (decimal n) at before after (at + width) × (at + width ≤ at + 20)
-number_put at width n before e p = (
-  record {
-    stands = p ∙ ap (λ (t : List ℕ). placed at t before) (ap (λ (w : ℕ). spelled 10 48 w n) e ∙ sym (decimal_spelled n));
-    ends = ap (λ (w : ℕ). at + w) e;
-  },
-  omega (arith, decimal_short n),
-)
+-- where as many digits are put as a number has, the number is put
+pub as_decimal : (width n : ℕ) {before after : Sheet} → width ≡ length (decimal n) → Adds (spelled 10 48 width n) width before after → Adds (decimal n) 20 before after
+as_decimal width n e p = said_as (ap (λ (w : ℕ). spelled 10 48 w n) e ∙ sym (decimal_spelled n)) (omega (arith, decimal_short n)) p
 
 -- a number of one digit, and one of two
 module _ (n : ℕ) where
@@ -161,11 +137,19 @@ unfolding decimal decimal_from
 decimal_of_most = refl
 
 -- a number below zero has its sign before its digits, and another has none
-module _ (n : ℤ) {size : ℕ} (e : size ≡ nat_abs n) where
-  pub with_sign : negative n ≡ true → numbered (bytes_of "-") size ≡ signed_decimal n
-  unfolding signed_decimal
-  with_sign b = rw (e, b)
+with_sign_as : (z : ℤ) {size : ℕ} → size ≡ nat_abs z → lt_z z (pos 0) ≡ true → numbered (bytes_of "-") size ≡ signed_decimal z
+unfolding signed_decimal
+with_sign_as (pos k) e b = absurd (omega (arith, ltb-true k 0 b))
+with_sign_as (negsuc k) e b = rw e refl
 
-  pub no_sign : negative n ≡ false → decimal size ≡ signed_decimal n
-  unfolding signed_decimal
-  no_sign b = rw (e, b)
+no_sign_as : (z : ℤ) {size : ℕ} → size ≡ nat_abs z → lt_z z (pos 0) ≡ false → decimal size ≡ signed_decimal z
+unfolding signed_decimal
+no_sign_as (pos k) e b = rw e refl
+no_sign_as (negsuc k) e b = absurd (true≢false b)
+
+module _ (n : ℤ) (fits : SFits w64 n) {size : ℕ} (e : size ≡ nat_abs (to_z w64 (of_z w64 n))) where
+  pub with_sign : lt_z (to_z w64 (of_z w64 n)) (pos 0) ≡ true → numbered (bytes_of "-") size ≡ signed_decimal n
+  with_sign b = with_sign_as n (rw (to_z-of_z fits) at e) (rw (to_z-of_z fits) at b)
+
+  pub no_sign : lt_z (to_z w64 (of_z w64 n)) (pos 0) ≡ false → decimal size ≡ signed_decimal n
+  no_sign b = no_sign_as n (rw (to_z-of_z fits) at e) (rw (to_z-of_z fits) at b)

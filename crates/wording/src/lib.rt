@@ -1,26 +1,17 @@
-// Texts and decimal numbers put into a lent buffer, for reports.
+// Texts and decimal numbers put on a sheet, for reports.
 //
-// Each function answers the place right after what it put, so that a report is put together by handing
-// each answer to the next call.
+// A sheet is a lent buffer and knows how far it is written, so that a report is put together by one call
+// after the other.
 #![tactic(auto)]
 
-ghost use Rattle.std.specs.Prelude.{◌+◌, ◌≤◌, ◌≡◌, length};
-ghost use Rattle.numerals.specs.Numerals.{spelled, placed};
-ghost use Rattle.wording.specs.Wording.{decimal, signed_decimal, numbered};
-ghost use Rattle.wording.specs.Puts.{Puts};
+mod sheet;
 
-// Puts a text into the buffer from `at` on, and answers the place after it.
-pub fn put_text(out: &mut [u8], at: usize, text: &[u8]) -> usize
-    requires { at + length text.now ≤ length out.old }
-    ensures { Puts text.now at out.old out.new result }
-{
-    let mut i = 0;
-    while i < text.len() {
-        out[at + i] = text[i];
-        i += 1;
-    }
-    at + i
-}
+ghost use Rattle.std.specs.Prelude.{◌+◌, ◌≡◌, length};
+ghost use Rattle.numerals.specs.Numerals.{spelled};
+ghost use Rattle.wording.specs.Wording.{decimal, signed_decimal, numbered};
+ghost use Rattle.wording.specs.Puts.{HasRoom, Adds};
+
+pub use sheet::Sheet;
 
 // How many decimal digits a number has.
 fn places(n: u64) -> usize
@@ -35,60 +26,68 @@ fn places(n: u64) -> usize
     k + 1
 }
 
-// Spells the last `width` digits of a number from `at` on, the last first. The base is a constant here,
-// so that no division by a variable is left.
-fn spell(out: &mut [u8], at: usize, width: usize, n: u64)
-    requires { at + width ≤ length out.old }
-    ensures { out.new ≡ placed at (spelled 10 48 width n) out.old }
-{
-    let mut left = n;
-    let mut k = width;
-    while 0 < k {
-        k -= 1;
-        out[at + k] = (48 + left % 10) as u8;
-        left = left / 10;
+impl Sheet<'_> {
+    // Puts a text.
+    pub fn put_text(&mut self, text: &[u8])
+        requires { HasRoom (length text.now) self.old }
+        ensures { Adds text.now (length text.now) self.old self.new }
+    {
+        let end = self.end + text.len();
+        let out = &mut *self.out;
+        out[self.end..end].copy_from_slice(text);
+        self.end = end;
     }
-}
 
-// Puts a number into the buffer from `at` on, and answers the place after its last digit. Most numbers of
-// a report have one digit or two: these are put without counting digits first.
-pub fn put_number(out: &mut [u8], at: usize, n: u64) -> usize
-    requires { at + 20 ≤ length out.old }
-    ensures puts { Puts (decimal n) at out.old out.new result }
-    ensures upper_bound { result ≤ at + 20 }
-{
-    if n < 10 {
-        spell(out, at, 1, n);
-        return at + 1;
+    // Puts the last `width` digits of a number, the last first. The base is a constant here, so that no
+    // division by a variable is left.
+    fn put_digits(&mut self, width: usize, n: u64)
+        requires { HasRoom width self.old }
+        ensures { Adds (spelled 10 48 width n) width self.old self.new }
+    {
+        let at = self.end;
+        let out = &mut *self.out;
+        let mut left = n;
+        for k in (0..width).rev() {
+            out[at + k] = (48 + left % 10) as u8;
+            left = left / 10;
+        }
+        self.end = at + width;
     }
-    if n < 100 {
-        spell(out, at, 2, n);
-        return at + 2;
-    }
-    let width = places(n);
-    spell(out, at, width, n);
-    at + width
-}
 
-// Puts a word and a number after it.
-pub fn put_numbered(out: &mut [u8], at: usize, word: &[u8], n: u64) -> usize
-    requires { at + length word.now + 20 ≤ length out.old }
-    ensures puts { Puts (numbered word.now n) at out.old out.new result }
-    ensures upper_bound { result ≤ at + length word.now + 20 }
-{
-    let after = put_text(out, at, word);
-    put_number(out, after, n)
-}
-
-// Puts a number that may be below zero, with its sign before it.
-pub fn put_signed(out: &mut [u8], at: usize, n: i64) -> usize
-    requires { at + 21 ≤ length out.old }
-    ensures puts { Puts (signed_decimal n) at out.old out.new result }
-    ensures upper_bound { result ≤ at + 21 }
-{
-    let size = signs::magnitude(n);
-    if signs::is_negative(n) {
-        return put_numbered(out, at, b"-", size);
+    // Puts a number. Most numbers of a report have one digit or two: these are put without counting
+    // digits first.
+    pub fn put_number(&mut self, n: u64)
+        requires { HasRoom 20 self.old }
+        ensures { Adds (decimal n) 20 self.old self.new }
+    {
+        if n < 10 {
+            return self.put_digits(1, n);
+        }
+        if n < 100 {
+            return self.put_digits(2, n);
+        }
+        self.put_digits(places(n), n);
     }
-    put_number(out, at, size)
+
+    // Puts a word and a number after it.
+    pub fn put_numbered(&mut self, word: &[u8], n: u64)
+        requires { HasRoom (length word.now + 20) self.old }
+        ensures { Adds (numbered word.now n) (length word.now + 20) self.old self.new }
+    {
+        self.put_text(word);
+        self.put_number(n);
+    }
+
+    // Puts a number that may be below zero, with its sign before it.
+    pub fn put_signed(&mut self, n: i64)
+        requires { HasRoom 21 self.old }
+        ensures { Adds (signed_decimal n) 21 self.old self.new }
+    {
+        let size = n.unsigned_abs();
+        if n < 0 {
+            self.put_numbered(b"-", size);
+        } else {
+            self.put_number(size);
+        }
+    }
 }

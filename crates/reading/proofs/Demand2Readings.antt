@@ -1,6 +1,7 @@
 -- Demand 2: each reading is what the published layout gives, and a refused record has none. Of an accepted record every element is read, and what it reads as
 -- is said by the kind of item, from the texts in its columns; `printed` and `one_by_one` of the layout's promises say which columns those are.
 -- Assumes nothing.
+use Rattle.std.proofs.Common.{Err, Ok}
 use Rattle.layout.proofs.PartLaws.{departure_is, coordinate_is, sign_is, temperature_is}
 use mathlib.Core.Path.{◌≡◌, refl, ◌∙◌}
 use mathlib.Core.Bool.{true, false}
@@ -14,7 +15,6 @@ use Rattle.layout.specs.declared.Edition.{Edition}
 use Rattle.refusals.specs.declared.Refusal.{Refusal}
 use Rattle.layout.specs.Editions.{last_of}
 use Rattle.layout.specs.Page.{text_of, is_departure, is_coordinate, is_sign, is_temperature, element, page}
-use Rattle.checking.specs.declared.Answer.TheVariants.{Accepted, Refused}
 use Rattle.checking.specs.Check.{checked}
 use Rattle.checking.proofs.Demand2Acceptance.{accepted_exactly}
 use Rattle.reading.specs.declared.Reading.{Reading}
@@ -29,7 +29,7 @@ abbrev pub reads : List ℕ → ℕ → Reading
 reads xs e = read_as (read_of xs).entries e
 
 -- an accepted record
-module _ (ed : Edition) (xs : List ℕ) (accepted : checked xs ≡ Accepted ed) where
+module _ (ed : Edition) (xs : List ℕ) (accepted : checked xs ≡ Ok ed) where
   pub reads_each : (e : ℕ) → 1 ≤ e → e ≤ 101 → reads xs e ≡ reading_of ed xs e
   unfolding read_after
   reads_each e l h = rw accepted (read_as_lem (reading_of ed xs) e l h)
@@ -72,6 +72,6 @@ module _ (ed : Edition) (xs : List ℕ) (accepted : checked xs ≡ Accepted ed) 
   reads_lacking e h l = reads_each e (omega arith) l ∙ lacking ed xs e ((accepted_exactly xs ed).0 accepted).full h
 
 -- a refused record
-pub reads_refused : (xs : List ℕ) (r : Refusal) → checked xs ≡ Refused r → (e : ℕ) → 1 ≤ e → e ≤ 101 → reads xs e ≡ Missing
+pub reads_refused : (xs : List ℕ) (r : Refusal) → checked xs ≡ Err r → (e : ℕ) → 1 ≤ e → e ≤ 101 → reads xs e ≡ Missing
 unfolding read_after
 reads_refused xs r refused e l h = rw refused (read_as_lem (λ i. Missing) e l h)

@@ -1,4 +1,5 @@
 -- A row of entries that a loop fills one after another: those below the element where it stands are read, the others are missing. Assumes nothing.
+use Rattle.std.proofs.Common.{Ok}
 use mathlib.Core.Path.{◌≡◌, refl, sym, ap, ◌∙◌}
 use mathlib.Core.Bool.{cond}
 use mathlib.Core.List.{List}
@@ -9,8 +10,7 @@ use lib.Dec.{leb}
 use lib.ListN.{length, get_or, set}
 use Rattle.text.proofs.Ways.{decide}
 use Rattle.layout.specs.declared.Edition.{Edition}
-use Rattle.checking.specs.declared.Answer.{Answer}
-use Rattle.checking.specs.declared.Answer.TheVariants.{Accepted}
+use Rattle.checking.specs.Check.{Answer}
 use Rattle.reading.specs.declared.Reading.{Reading}
 use Rattle.reading.specs.declared.Reading.TheVariants.{Missing}
 use Rattle.reading.specs.declared.Readings.{Readings}
@@ -109,6 +109,6 @@ pub as_known : {a b : Answer} (xs : List ℕ) (es : List Reading) → a ≡ b �
 as_known xs es g h = rw g h
 
 -- what the entries of an accepted record hold is what the elements read as
-pub read_back : (ed : Edition) (xs : List ℕ) (all : Readings) → all ≡ read_after (Accepted ed) xs → (e : ℕ) → 1 ≤ e → e ≤ 101 → read_as all.entries e ≡ reading_of ed xs e
+pub read_back : (ed : Edition) (xs : List ℕ) (all : Readings) → all ≡ read_after (Ok ed) xs → (e : ℕ) → 1 ≤ e → e ≤ 101 → read_as all.entries e ≡ reading_of ed xs e
 unfolding read_after
 read_back ed xs all h e l m = rw h (read_as_lem (reading_of ed xs) e l m)

@@ -1,4 +1,5 @@
 -- Request 2: a place read from an accepted record is a multiple of ten in both numbers, and within the limits of its columns. Assumes nothing.
+use Rattle.std.proofs.Common.{Ok}
 use mathlib.Core.Path.{◌≡◌, refl, sym, ◌∙◌}
 use mathlib.Core.Bool.{Bool, true, false, cond, ◌||◌}
 use mathlib.Core.List.{List}
@@ -17,7 +18,6 @@ use Rattle.layout.proofs.Holding.{at_most}
 use Rattle.places.specs.declared.Place.{Place}
 use Rattle.places.specs.Places.{place_at, Tens}
 use Rattle.places.proofs.Request2Places.{place_tens, latitude_most, longitude_most}
-use Rattle.checking.specs.declared.Answer.TheVariants.{Accepted}
 use Rattle.checking.specs.Check.{checked}
 use Rattle.checking.specs.Acceptable.{Acceptable}
 use Rattle.checking.proofs.Demand2Acceptance.{accepted_exactly}
@@ -59,7 +59,7 @@ module _ (ed : Edition) (xs : List ℕ) (a : Acceptable ed xs) where
           rw (← same) (latitude_most ed (number (text_of 6 xs)) (number (text_of 7 xs)) (number (text_of 8 xs)) north, longitude_most ed (number (text_of 6 xs)) (number (text_of 7 xs)) (number (text_of 8 xs)) (omega arith))
 
 -- Every accepted record, each of the elements 6 to 8 that is not missing.
-pub place_read : (ed : Edition) (xs : List ℕ) → checked xs ≡ Accepted ed → (e : ℕ) → among 6 7 8 8 e ≡ true → (p : Place) → reads xs e ≡ At p → ReadPlace p
+pub place_read : (ed : Edition) (xs : List ℕ) → checked xs ≡ Ok ed → (e : ℕ) → among 6 7 8 8 e ≡ true → (p : Place) → reads xs e ≡ At p → ReadPlace p
 place_read ed xs accepted e k p r =
     let gives = sym (reads_place ed xs accepted e k) ∙ r in
     let at = limits ed xs ((accepted_exactly xs ed).0 accepted) p gives in

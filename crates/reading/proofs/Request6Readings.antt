@@ -1,13 +1,13 @@
 -- Request 6: one call checks and reads. What it answers fits the record, and two answers that fit are equal; what it says of the record is what a check says.
 -- Assumes nothing.
+use Rattle.std.proofs.Common.{Err, Ok}
 use mathlib.Core.Path.{◌≡◌, refl, sym, ap, ◌∙◌}
 use mathlib.Core.List.{List}
 use Prim.Native.Nat.{ℕ, ◌+◌, ◌≤◌}
 use native.Mathlib.Omega.{arith}
 use lib.ListN.{length}
 use lib.Seq.{ext_get_or}
-use Rattle.checking.specs.declared.Answer.{Answer}
-use Rattle.checking.specs.declared.Answer.TheVariants.{Accepted, Refused}
+use Rattle.checking.specs.Check.{Answer}
 use Rattle.checking.specs.Check.{checked}
 use Rattle.checking.proofs.Demand1Refusals as Checks
 use Rattle.reading.specs.declared.Reading.TheVariants.{Missing}
@@ -23,8 +23,8 @@ unfolding read_after
 checks xs = by (checked xs)
   where
     by : (a : Answer) → (read_after a xs).answer ≡ a
-    by (Accepted ed) = refl
-    by (Refused r) = refl
+    by (Ok ed) = refl
+    by (Err r) = refl
 
 -- and there are always 101 entries
 pub always_101 : (xs : List ℕ) → length (read_of xs).entries ≡ 101
@@ -32,8 +32,8 @@ unfolding read_after
 always_101 xs = by (checked xs)
   where
     by : (a : Answer) → length (read_after a xs).entries ≡ 101
-    by (Accepted ed) = entries_long _ 1 101
-    by (Refused r) = entries_long _ 1 101
+    by (Ok ed) = entries_long _ 1 101
+    by (Err r) = entries_long _ 1 101
 
 -- What is answered fits.
 pub fits : (xs : List ℕ) → Fits xs (read_of xs)
@@ -59,5 +59,5 @@ only_one xs a b f g = same_answer a.answer refl
         ap (λ (v : Answer). holding v a.entries) verdict ∙ ap (holding b.answer) es
 
     same_answer : (v : Answer) → a.answer ≡ v → a ≡ b
-    same_answer (Accepted ed) p = row (λ e l h. f.reads ed p e l h ∙ sym (g.reads ed (sym verdict ∙ p) e l h))
-    same_answer (Refused r) p = row (λ e l h. f.none r p e l h ∙ sym (g.none r (sym verdict ∙ p) e l h))
+    same_answer (Ok ed) p = row (λ e l h. f.reads ed p e l h ∙ sym (g.reads ed (sym verdict ∙ p) e l h))
+    same_answer (Err r) p = row (λ e l h. f.none r p e l h ∙ sym (g.none r (sym verdict ∙ p) e l h))

@@ -1,8 +1,7 @@
 -- What reading a record answers: its refusal by rules 1 to 7, or its edition and all its readings. Assumes nothing.
-use Rattle.std.specs.Prelude.{ℕ, zero, suc, ◌+◌, ◌-◌, List, [], ◌∷◌, get_or}
+use Rattle.std.specs.Prelude.{ℕ, zero, suc, ◌+◌, ◌-◌, List, [], ◌∷◌, get_or, Err, Ok}
 use Rattle.layout.specs.Editions.{last_element}
-use Rattle.checking.specs.declared.Answer.{Answer}
-use Rattle.checking.specs.declared.Answer.TheVariants.{Accepted, Refused}
+use Rattle.checking.specs.Check.{Answer}
 use Rattle.checking.specs.Check.{checked}
 use Rattle.reading.specs.declared.Reading.{Reading}
 use Rattle.reading.specs.declared.Reading.TheVariants.{Missing}
@@ -19,8 +18,8 @@ entries_of reads = entries_from reads 1 last_element
 
 -- an accepted record gives every reading, and those that its edition lacks are missing, having no columns; a refused one gives none
 unfoldable pub read_after : Answer → List ℕ → Readings
-read_after (Accepted ed) xs = record { answer = Accepted ed; entries = entries_of (reading_of ed xs) }
-read_after (Refused r) xs = record { answer = Refused r; entries = entries_of (λ e. Missing) }
+read_after (Ok ed) xs = record { answer = Ok ed; entries = entries_of (reading_of ed xs) }
+read_after (Err r) xs = record { answer = Err r; entries = entries_of (λ e. Missing) }
 
 abbrev pub read_of : List ℕ → Readings
 read_of xs = read_after (checked xs) xs

@@ -1,9 +1,8 @@
 -- What the answer to reading a record must say to fit it, with no order of the rules and no word of how it is read. Assumes nothing.
-use Rattle.std.specs.Prelude.{ℕ, ◌≤◌, ◌≡◌, List, length}
+use Rattle.std.specs.Prelude.{ℕ, ◌≤◌, ◌≡◌, List, length, Err, Ok}
 use Rattle.layout.specs.Editions.{last_element}
 use Rattle.layout.specs.declared.Edition.{Edition}
 use Rattle.refusals.specs.declared.Refusal.{Refusal}
-use Rattle.checking.specs.declared.Answer.TheVariants.{Accepted, Refused}
 use Rattle.checking.specs.Acceptable as Checking
 use Rattle.reading.specs.declared.Reading.TheVariants.{Missing}
 use Rattle.reading.specs.declared.Readings.{Readings}
@@ -16,6 +15,6 @@ pub record Fits (xs : List ℕ) (all : Readings) : Type 0 where
   -- there are always 101 entries
   pub full : length all.entries ≡ last_element
   -- each element of an accepted record reads as its columns say
-  pub reads : (ed : Edition) → all.answer ≡ Accepted ed → (e : ℕ) → 1 ≤ e → e ≤ last_element → read_as all.entries e ≡ reading_of ed xs e
+  pub reads : (ed : Edition) → all.answer ≡ Ok ed → (e : ℕ) → 1 ≤ e → e ≤ last_element → read_as all.entries e ≡ reading_of ed xs e
   -- a refused record has no readings
-  pub none : (r : Refusal) → all.answer ≡ Refused r → (e : ℕ) → 1 ≤ e → e ≤ last_element → read_as all.entries e ≡ Missing
+  pub none : (r : Refusal) → all.answer ≡ Err r → (e : ℕ) → 1 ≤ e → e ≤ last_element → read_as all.entries e ≡ Missing

@@ -250,14 +250,14 @@ fn is_single(e: usize) -> bool
 // starts is carried along; those that the edition lacks stay missing, as all of a refused record do. The
 // entries are made once for either answer, so that the compiler has no two rows to choose between.
 pub fn read_after(answer: Answer, line: &[u8]) -> Readings
-    requires { (ed : Edition) → answer ≡ Answer.Accepted ed → length line.now ≡ length_of ed }
+    requires { (ed : Edition) → answer ≡ Ok ed → length line.now ≡ length_of ed }
     ensures { result ≡ read_after answer line.now }
 {
     let mut all = Readings {
         answer: answer,
         entries: [Reading::Missing; ELEMENTS],
     };
-    if let Answer::Accepted(edition) = answer {
+    if let Ok(edition) = answer {
         let last = edition.last();
         let mut at = 0;
         for e in 1..last + 1 {

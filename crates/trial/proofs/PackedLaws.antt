@@ -1,4 +1,4 @@
--- Readings as numbers: how they are unpacked, and how a loop packs them at the front of what is lent. And a text shown in a buffer. Assumes nothing.
+-- Readings as numbers: how a loop packs them at the front of what is lent, and that they are unpacked as they were. Assumes nothing.
 use mathlib.Core.Path.{◌≡◌, refl, sym, ap, ◌∙◌}
 use mathlib.Core.Bool.{Bool, true, false}
 use mathlib.Core.List.{List, [], ◌∷◌, ◌++◌}
@@ -6,25 +6,17 @@ use Prim.Native.Nat.{ℕ, zero, suc, ◌+◌, ◌*◌, ◌<◌, ◌≤◌}
 use native.Mathlib.Nat.{add-zero}
 use native.Mathlib.Numerals.{add-one}
 use native.Mathlib.Omega.{arith}
-use borrow.Author.Tests.{le-leb, lt-leb, leb-true}
+use borrow.Author.Tests.{leb-true}
 use lib.Dec.{leb, lit<}
 use lib.IntN.{ℤ, pos}
 use lib.ListN.{length, get_or, take, drop, set, length-set}
 use lib.Seq.{take_all, take-suc, drop-cons, set_at, append_snoc, length-take-le, get_or-take, get_or-drop}
 use Rattle.text.proofs.Ways.{and_first, and_second}
-use Rattle.checking.specs.declared.Answer.{Answer}
 use Rattle.reading.specs.declared.Kind.TheVariants.{Measured, Computed, IcedMeasured, IcedComputed}
 use Rattle.reading.specs.declared.Reading.{Reading}
 use Rattle.reading.specs.declared.Reading.TheVariants.{Missing, Code, Text, Amount, At}
 use Rattle.trial.specs.declared.Packed.{Packed}
-use Rattle.trial.specs.Packed.{reading_from, reading_at, packed, numbers_from, amounts_from, edition_in, room, laid_in, shown_in}
-
-module _ (numbers : List ℕ) (amounts : List ℤ) where
-  pub read_at : (k case first second digit : ℕ) (amount : ℤ) → case ≡ get_or numbers (4 * k) 0 → first ≡ get_or numbers (4 * k + 1) 0 →
-      second ≡ get_or numbers (4 * k + 2) 0 → digit ≡ get_or numbers (4 * k + 3) 0 → amount ≡ get_or amounts k (pos 0) →
-      reading_from case first second digit amount ≡ reading_at numbers amounts k
-  unfolding reading_at
-  read_at k case first second digit amount e f g h i = rw (e, f, g, h, i)
+use Rattle.trial.specs.Packed.{reading_from, packed, numbers_from, amounts_from, room, laid_in}
 
 -- what is laid at the front: one more
 front_more : {A : Type 0} (before laid : List A) (j : ℕ) (z x : A) → j < length before → j < length laid → x ≡ get_or laid j z → set (take j laid ++ drop j before) j x ≡ take (suc j) laid ++ drop (suc j) before
@@ -121,13 +113,6 @@ laid t xs before after n h l e = e ∙ rw (h, l)
 pub unlaid : {A : Type 0} (t : Bool) (xs before : List A) → t ≡ false → before ≡ laid_in t xs before
 unlaid t xs before h = rw h
 
--- what is said of a reading or an answer is said of one that it is
-pub at_packed : {r s : Reading} → r ≡ s → packed s ≡ packed r
-at_packed e = ap packed (sym e)
-
-pub at_edition : {a b : Answer} → a ≡ b → edition_in b ≡ edition_in a
-at_edition e = ap edition_in (sym e)
-
 -- what is packed is unpacked as it was
 pub packed_back : (r : Reading) → reading_from (packed r).case (packed r).first (packed r).second (packed r).digit (packed r).amount ≡ r
 unfolding reading_from packed
@@ -139,12 +124,3 @@ packed_back (Amount a Computed) = refl
 packed_back (Amount a IcedMeasured) = refl
 packed_back (Amount a IcedComputed) = refl
 packed_back (At p) = refl
-
--- a text that is as long as the room or shorter, and one that is longer
-pub shown : (sign text before after : List ℕ) → text ≡ sign → length text ≤ length before → after ≡ text ++ drop (length text) before →
-    after ≡ shown_in sign before
-shown sign text before after e h f =
-    f ∙ rw (← e, le-leb (length text) (length before) h)
-
-pub not_shown : (sign text before : List ℕ) → text ≡ sign → length before < length text → before ≡ shown_in sign before
-not_shown sign text before e h = rw (← e, lt-leb (length text) (length before) h)

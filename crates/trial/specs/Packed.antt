@@ -1,10 +1,8 @@
 -- The readings that packed numbers say, the numbers that say readings, and what showing a text leaves in a lent buffer. Assumes nothing.
-use Rattle.std.specs.Prelude.{ℕ, zero, suc, ◌+◌, ◌-◌, ◌*◌, Bool, cond, ◌&&◌, List, [], ◌∷◌, eqb, leb, ℤ, pos, length, get_or}
+use Rattle.std.specs.Prelude.{ℕ, zero, suc, ◌+◌, ◌-◌, ◌*◌, Bool, cond, ◌&&◌, List, [], ◌∷◌, eqb, leb, ℤ, pos, length, get_or, Err, Ok}
 use Rattle.refusals.specs.Lent.{overwritten}
 use Rattle.layout.specs.Editions.{edition_number, last_element}
-use Rattle.checking.specs.declared.Answer.{Answer}
-use Rattle.checking.specs.declared.Answer.TheVariants.{Accepted, Refused}
-use Rattle.reading.specs.declared.Entry.{Entry}
+use Rattle.checking.specs.Check.{Answer}
 use Rattle.reading.specs.declared.Kind.{Kind}
 use Rattle.reading.specs.declared.Kind.TheVariants.{Measured, Computed, IcedMeasured, IcedComputed}
 use Rattle.reading.specs.declared.Reading.{Reading}
@@ -31,7 +29,7 @@ reading_at numbers amounts k =
     reading_from (get_or numbers (4 * k) 0) (get_or numbers (4 * k + 1) 0) (get_or numbers (4 * k + 2) 0) (get_or numbers (4 * k + 3) 0) (get_or amounts k (pos 0))
 
 -- the entries of all elements
-abbrev pub entries_in : List ℕ → List ℤ → List Entry
+abbrev pub entries_in : List ℕ → List ℤ → List Reading
 entries_in numbers amounts = entries_of (λ e. reading_at numbers amounts (e - 1))
 
 -- the numbers of a reading, the one with a sign last
@@ -51,16 +49,16 @@ unfoldable pub amounts_from : (ℕ → Reading) → ℕ → ℕ → List ℤ
 amounts_from reads e zero = []
 amounts_from reads e (suc n) = (packed (reads e)).amount ∷ amounts_from reads (e + 1) n
 
-abbrev pub numbers_of : List Entry → List ℕ
+abbrev pub numbers_of : List Reading → List ℕ
 numbers_of entries = numbers_from (read_as entries) 1 last_element
 
-abbrev pub amounts_of : List Entry → List ℤ
+abbrev pub amounts_of : List Reading → List ℤ
 amounts_of entries = amounts_from (read_as entries) 1 last_element
 
 -- the number of an accepted record's edition, 0 where it is refused
 unfoldable pub edition_in : Answer → ℕ
-edition_in (Accepted ed) = edition_number ed
-edition_in (Refused r) = 0
+edition_in (Ok ed) = edition_number ed
+edition_in (Err r) = 0
 
 -- room for the numbers of all elements, and what is laid at the front of what is lent where there is room
 abbrev pub room : List ℕ → List ℤ → Bool

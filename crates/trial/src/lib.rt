@@ -13,14 +13,15 @@ ghost use Rattle.layout.specs.Editions.{last_element};
 ghost use Rattle.refusals.specs.Verdicts.{verdict_number, verdict_place};
 ghost use Rattle.refusals.specs.Lent.{verdict_in, left_by};
 ghost use Rattle.checking.specs.Check.{checked, answer_verdict, call_sign_of};
-ghost use Rattle.reading.specs.Answers.{read_of, readings};
+ghost use Rattle.reading.specs.Answers.{read_of};
+ghost use Rattle.spelling.specs.Same.{kind_number};
 ghost use Rattle.writing.specs.Written.{written};
 ghost use Rattle.trial.specs.Packed.{kind_from, reading_from, reading_at, entries_in, packed, numbers_of, amounts_of, edition_in, room, laid_in, shown_in};
 
 use checking::Answer;
 use layout::ELEMENTS;
 use places::Place;
-use reading::{Entry, Kind, Reading, Readings};
+use reading::{Kind, Reading, Readings};
 
 // Four numbers for each element.
 const NUMBERS: usize = 4 * ELEMENTS;
@@ -35,7 +36,20 @@ pub struct Packed {
     pub amount: i64,
 }
 
+// The number of a kind.
+fn kind_number(kind: Kind) -> u64
+    ensures { result ≡ kind_number kind }
+{
+    match kind {
+        Kind::Measured => 0,
+        Kind::Computed => 1,
+        Kind::IcedMeasured => 2,
+        Kind::IcedComputed => 3,
+    }
+}
+
 // Packs a reading.
+#[tactic(auto, unfolding(crate::specs::Packed::packed))]
 fn pack(reading: Reading) -> Packed
     ensures { result ≡ packed reading }
 {
@@ -64,7 +78,7 @@ fn pack(reading: Reading) -> Packed
         Reading::Amount(a, kind) => Packed {
             case: 3,
             first: 0,
-            second: spelling::kind_number(kind),
+            second: kind_number(kind),
             digit: 0,
             amount: a,
         },
@@ -84,19 +98,14 @@ fn put_all(all: Readings, numbers: &mut [u64], amounts: &mut [i64])
     ensures numbers_after { numbers.new ≡ numbers_of all.entries ++ drop (4 * last_element) numbers.old }
     ensures amounts_after { amounts.new ≡ amounts_of all.entries ++ drop last_element amounts.old }
 {
-    let mut k = 0;
-    while k < ELEMENTS {
-        let entry = all.entries[k];
-        let reading = entry.reading;
-        let said = pack(reading);
-        let amount = said.amount;
+    for k in 0..ELEMENTS {
+        let said = pack(all.entries[k]);
         let i = 4 * k;
         numbers[i] = said.case;
         numbers[i + 1] = said.first;
         numbers[i + 2] = said.second;
         numbers[i + 3] = said.digit;
-        amounts[k] = amount;
-        k += 1;
+        amounts[k] = said.amount;
     }
 }
 
@@ -108,13 +117,11 @@ fn has_room(numbers: &[u64], amounts: &[i64]) -> bool
 }
 
 // The number of an accepted record's edition, 0 where it is refused.
+#[tactic(auto, unfolding(crate::specs::Packed::edition_in))]
 fn edition_in(answer: Answer) -> u64
     ensures { result ≡ edition_in answer }
 {
-    match answer {
-        Answer::Accepted(edition) => edition.number(),
-        Answer::Refused(_) => 0,
-    }
+    answer.map_or(0, |edition| edition.number())
 }
 
 // Reads a record: the refusal's number, 0 where there is none, its place, the edition's number, 0 where the
@@ -135,9 +142,9 @@ pub extern "C" fn trial_read(
 {
     let all = reading::read(line);
     let answer = all.answer;
-    let verdict = answer.verdict();
-    let number = verdict.number();
-    let at = verdict.place();
+    let verdict = checking::verdict_of(answer);
+    let number = refusals::number_of(verdict);
+    let at = refusals::place_of(verdict);
     let held = edition_in(answer);
     if has_room(numbers, amounts) {
         put_all(all, numbers, amounts);
@@ -160,24 +167,11 @@ pub extern "C" fn trial_show(line: &[u8], buffer: &mut [u8]) -> u64
     sign.len() as u64
 }
 
-// The number at a place, 0 where there is none.
-fn number_at(numbers: &[u64], i: usize) -> u64
-    ensures { result ≡ get_or numbers.now i 0 }
+// The number at a place, or the one that stands for none.
+fn at_or<T: Copy>(items: &[T], i: usize, none: T) -> T
+    ensures { result ≡ get_or items.now i none }
 {
-    if i < numbers.len() {
-        return numbers[i];
-    }
-    0
-}
-
-// The number with a sign at a place, 0 where there is none.
-fn amount_at(amounts: &[i64], i: usize) -> i64
-    ensures { result ≡ get_or amounts.now i (pos 0) }
-{
-    if i < amounts.len() {
-        return amounts[i];
-    }
-    0
+    items.get(i).copied().unwrap_or(none)
 }
 
 // The kind that a number says.
@@ -193,6 +187,7 @@ fn kind_of(n: u64) -> Kind
 }
 
 // The reading that a case and its parts say.
+#[tactic(auto, unfolding(crate::specs::Packed::reading_from))]
 fn reading_of(case: u64, first: u64, second: u64, digit: u64, amount: i64) -> Reading
     ensures { result ≡ reading_from case first second digit amount }
 {
@@ -210,32 +205,27 @@ fn reading_of(case: u64, first: u64, second: u64, digit: u64, amount: i64) -> Re
 }
 
 // The reading of element k + 1.
+#[tactic(auto, unfolding(crate::specs::Packed::reading_at))]
 fn reading_at(numbers: &[u64], amounts: &[i64], k: usize) -> Reading
     requires { k ≤ 100 }
     ensures { result ≡ reading_at numbers.now amounts.now k }
 {
     let i = 4 * k;
-    let case = number_at(numbers, i);
-    let first = number_at(numbers, i + 1);
-    let second = number_at(numbers, i + 2);
-    let digit = number_at(numbers, i + 3);
-    let amount = amount_at(amounts, k);
+    let case = at_or(numbers, i, 0);
+    let first = at_or(numbers, i + 1, 0);
+    let second = at_or(numbers, i + 2, 0);
+    let digit = at_or(numbers, i + 3, 0);
+    let amount = at_or(amounts, k, 0);
     reading_of(case, first, second, digit, amount)
 }
 
 // The entries of all 101 elements.
-fn entries_of(numbers: &[u64], amounts: &[i64]) -> [Entry; ELEMENTS]
+fn entries_of(numbers: &[u64], amounts: &[i64]) -> [Reading; ELEMENTS]
     ensures { result ≡ entries_in numbers.now amounts.now }
 {
-    let mut entries = [Entry {
-        reading: Reading::Missing,
-    }; ELEMENTS];
-    let mut k = 0;
-    while k < ELEMENTS {
-        entries[k] = Entry {
-            reading: reading_at(numbers, amounts, k),
-        };
-        k += 1;
+    let mut entries = [Reading::Missing; ELEMENTS];
+    for k in 0..ELEMENTS {
+        entries[k] = reading_at(numbers, amounts, k);
     }
     entries
 }
@@ -251,13 +241,13 @@ pub extern "C" fn trial_write(
     buffer: &mut [u8],
     place: &mut u64,
 ) -> u64
-    ensures value { result ≡ verdict_number (verdict_in (length buffer.old) (written (readings (entries_in numbers.now amounts.now)) edition)) }
-    ensures place_after { place.new ≡ verdict_place (verdict_in (length buffer.old) (written (readings (entries_in numbers.now amounts.now)) edition)) }
-    ensures buffer_after { buffer.new ≡ left_by (written (readings (entries_in numbers.now amounts.now)) edition) buffer.old }
+    ensures value { result ≡ verdict_number (verdict_in (length buffer.old) (written (entries_in numbers.now amounts.now) edition)) }
+    ensures place_after { place.new ≡ verdict_place (verdict_in (length buffer.old) (written (entries_in numbers.now amounts.now) edition)) }
+    ensures buffer_after { buffer.new ≡ left_by (written (entries_in numbers.now amounts.now) edition) buffer.old }
 {
     let verdict = writing::write(entries_of(numbers, amounts), edition, buffer);
-    let at = verdict.place();
-    let number = verdict.number();
+    let at = refusals::place_of(verdict);
+    let number = refusals::number_of(verdict);
     *place = at;
     number
 }

@@ -1,5 +1,6 @@
 -- Demand 1: write answers the refusal that document 01 fixes, in its order, with its place; two verdicts that fit are equal; and a refused call writes nothing to
 -- the lent buffer. Assumes nothing.
+use Rattle.std.proofs.Common.{Err, None, Option, Some}
 use mathlib.Core.Path.{◌≡◌, refl, sym, ap, ◌∙◌}
 use mathlib.Core.Bool.{Bool, true, false}
 use mathlib.Core.Logic.{◌↔◌}
@@ -11,12 +12,9 @@ use lib.Dec.{leb}
 use lib.ListN.{length}
 use Rattle.text.proofs.First.{none_of_all, at_lowest}
 use Rattle.layout.specs.declared.Edition.{Edition}
-use Rattle.layout.specs.declared.Named.{Named}
-use Rattle.layout.specs.declared.Named.TheVariants.{Known, Unknown}
 use Rattle.refusals.specs.declared.Refusal.{Refusal}
 use Rattle.refusals.specs.declared.Refusal.TheVariants.{Broken}
-use Rattle.refusals.specs.declared.Verdict.{Verdict}
-use Rattle.refusals.specs.declared.Verdict.TheVariants.{Refused}
+use Rattle.refusals.specs.Verdicts.{Verdict}
 use Rattle.refusals.specs.Lent.{Call, refusing, in_room, verdict_of, verdict_in, left_by, Quiet, quiet}
 use Rattle.refusals.proofs.LentLaws as Lent
 use Rattle.refusals.proofs.LentLaws.{has_room, lacks_room}
@@ -73,13 +71,13 @@ fits_exactly rs edition room v = (one v, λ e. rw e (answer (asked edition) refl
     one v (unheld e) = rw e
     one v (held ed e p f) = rw e (is_the_one ed rs room v f)
 
-    answer : (n : Named) → asked edition ≡ n → Fits rs edition room (verdict_in room (written_as n rs))
-    answer Unknown e = unheld e
-    answer (Known ed) e = held ed e (verdict_in room (written_in ed rs)) (fits_in ed rs room)
+    answer : (n : Option Edition) → asked edition ≡ n → Fits rs edition room (verdict_in room (written_as n rs))
+    answer None e = unheld e
+    answer (Some ed) e = held ed e (verdict_in room (written_in ed rs)) (fits_in ed rs room)
 
 pub two_that_fit : (rs : List Reading) (edition room : ℕ) (v w : Verdict) → Fits rs edition room v → Fits rs edition room w → v ≡ w
 two_that_fit rs edition room v w f g = (fits_exactly rs edition room v).0 f ∙ sym ((fits_exactly rs edition room w).0 g)
 
 -- a refused call leaves the lent buffer as it was
-pub refused_untouched : (rs : List Reading) (edition : ℕ) (before : List ℕ) (r : Refusal) → verdict_in (length before) (written rs edition) ≡ Refused r → left_by (written rs edition) before ≡ before
+pub refused_untouched : (rs : List Reading) (edition : ℕ) (before : List ℕ) (r : Refusal) → verdict_in (length before) (written rs edition) ≡ Err r → left_by (written rs edition) before ≡ before
 refused_untouched rs edition before r e = Lent.refused_untouched (written rs edition) before r e

@@ -1,4 +1,5 @@
 -- Demand 2: reading a record and writing it back gives the same characters. Assumes nothing.
+use Rattle.std.proofs.Common.{Ok, Some}
 use mathlib.Core.Path.{◌≡◌, ap, ◌∙◌}
 use mathlib.Core.Bool.{true}
 use mathlib.Core.List.{List}
@@ -7,22 +8,19 @@ use native.Mathlib.Omega.{arith}
 use lib.ListN.{length}
 use Rattle.numerals.specs.Numerals.{spell}
 use Rattle.layout.specs.declared.Edition.{Edition}
-use Rattle.layout.specs.declared.Named.TheVariants.{Known}
-use Rattle.refusals.specs.declared.Verdict.TheVariants.{Fine}
 use Rattle.refusals.specs.Lent.{writing, verdict_in, overwritten, left_by, quiet}
 use Rattle.refusals.proofs.LentLaws.{has_room}
 use Rattle.layout.specs.Editions.{asked, length_of, last_of}
 use Rattle.layout.specs.Page.{width_of, text_of}
 use Rattle.layout.proofs.Elements.{last_below}
 use Rattle.ties.specs.Ties.{tie}
-use Rattle.checking.specs.declared.Answer.TheVariants.{Accepted}
 use Rattle.checking.specs.Check.{checked}
 use Rattle.checking.specs.Acceptable.{Acceptable}
 use Rattle.checking.proofs.Demand2Acceptance.{accepted_exactly}
 use Rattle.checking.proofs.LegalLaws.{all_legal}
 use Rattle.reading.specs.declared.Reading.{Reading}
 use Rattle.reading.specs.Readings.{lead, item_of, reading_of}
-use Rattle.reading.specs.Answers.{read_of, readings}
+use Rattle.reading.specs.Answers.{read_of}
 use Rattle.reading.proofs.ReadingLaws.{lead_is, lead_of_lead}
 use Rattle.reading.proofs.Demand2Readings.{reads_each}
 use Rattle.spelling.specs.Spelled.{numeral_for, given, record_of}
@@ -59,12 +57,12 @@ module _ (ed : Edition) (xs : List ℕ) (a : Acceptable ed xs) (rs : List Readin
 
 -- the same of the calls: what is read of an accepted record is written to its own edition where there is room. The lent buffer then begins with the record's
 -- characters, and the rest of it is what it was
-pub read_and_written_back : (ed : Edition) (xs : List ℕ) → checked xs ≡ Accepted ed →
-    (edition : ℕ) → asked edition ≡ Known ed → (before : List ℕ) → length_of ed ≤ length before →
-    (verdict_in (length before) (written (readings (read_of xs).entries) edition) ≡ Fine) × (left_by (written (readings (read_of xs).entries) edition) before ≡ overwritten xs before)
+pub read_and_written_back : (ed : Edition) (xs : List ℕ) → checked xs ≡ Ok ed →
+    (edition : ℕ) → asked edition ≡ Some ed → (before : List ℕ) → length_of ed ≤ length before →
+    (verdict_in (length before) (written (read_of xs).entries edition) ≡ Ok tt) × (left_by (written (read_of xs).entries edition) before ≡ overwritten xs before)
 unfolding written_as
 read_and_written_back ed xs accepted edition names before room =
     let a = (accepted_exactly xs ed).0 accepted in
-    let back = written_back_lem ed xs a (readings (read_of xs).entries) (reads_each ed xs accepted) in
+    let back = written_back_lem ed xs a (read_of xs).entries (reads_each ed xs accepted) in
     let fits = has_room quiet xs (length before) (omega (arith, a.full)) in
     (rw (names, back, fits), rw (names, back, fits))

@@ -1,4 +1,5 @@
 -- Demand 2: write refuses with 6 and element e exactly where e is the lowest element whose reading no legal texts give. Assumes nothing.
+use Rattle.std.proofs.Common.{Err}
 use Rattle.layout.proofs.PartLaws.{coordinate_cases}
 use mathlib.Core.Path.{◌≡◌, refl, sym, ap, ◌∙◌}
 use mathlib.Core.Logic.{◌↔◌, ⊎_elim}
@@ -12,7 +13,6 @@ use lib.Dec.{leb, lit≤}
 use Rattle.text.proofs.Ways.{and_first, and_second}
 use Rattle.layout.specs.declared.Edition.{Edition}
 use Rattle.refusals.specs.declared.Refusal.TheVariants.{Illegal}
-use Rattle.refusals.specs.declared.Verdict.TheVariants.{Refused}
 use Rattle.refusals.proofs.LentLaws.{by_its_rules}
 use Rattle.refusals.specs.Lent.{in_room, verdict_in, Call, refusing, Quiet}
 use Rattle.layout.specs.Page.{legal, is_coordinate, is_temperature, element, page}
@@ -105,7 +105,7 @@ module _ (ed : Edition) (rs : List Reading) where
       from u c (kept f g) = absurd (no_more u f)
 
   -- the same of the verdict, whatever the room
-  pub refused_exactly : (k room : ℕ) → (verdict_in room (written_in ed rs) ≡ Refused (Illegal k)) ↔ Ungivable ed rs k
+  pub refused_exactly : (k room : ℕ) → (verdict_in room (written_in ed rs) ≡ Err (Illegal k)) ↔ Ungivable ed rs k
   unfolding in_room
   refused_exactly k room = (
     λ e. (comes_to_6 k).0 (by_its_rules room (Illegal k) (λ f. let z : ◌≡◌ {A = ℕ} 0 1 = cc in omega arith) (written_in ed rs) e),

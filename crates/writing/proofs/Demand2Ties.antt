@@ -1,5 +1,6 @@
 -- Demand 2: which ties a write can break. Readings say one thing of a place and of a temperature, so ties 1 and 3 to 6 hold of what is spelled from them; the
 -- others are between readings, and Demand2TiesBroken breaks each. Assumes nothing.
+use Rattle.std.proofs.Common.{Err}
 use mathlib.Core.Path.{◌≡◌, refl, sym, ap, ◌∙◌}
 use mathlib.Core.Bool.{Bool, true, false, ◌&&◌, ◌||◌, true≢false}
 use mathlib.Core.Logic.{⊎_elim}
@@ -18,7 +19,6 @@ use Rattle.text.proofs.Ways.{and_first, and_second, decide}
 use Rattle.numerals.specs.Numerals.{spelled, spell, in_digits, in_blanks}
 use Rattle.layout.specs.declared.Edition.{Edition}
 use Rattle.refusals.specs.declared.Refusal.TheVariants.{Broken}
-use Rattle.refusals.specs.declared.Verdict.TheVariants.{Refused}
 use Rattle.refusals.proofs.LentLaws.{by_its_rules}
 use Rattle.refusals.specs.Lent.{verdict_in, Call, refusing, Quiet}
 use Rattle.layout.specs.Page.{element, page, width_of, text_of, is_sign, is_coordinate, is_temperature}
@@ -140,7 +140,7 @@ module _ (ed : Edition) (xs : List ℕ) where
       (either_half (within_readings (suc k)) _ (passes_below (length (Ties.ties ed xs)) (λ k. within_readings (suc k) || member (suc k) between_readings) either_kind k (broken_listed ed xs (suc k) x)))
 
 -- write breaks no tie but those between readings
-pub breaks_only : (ed : Edition) (rs : List Reading) (room k : ℕ) → verdict_in room (written_in ed rs) ≡ Refused (Broken k) → member k between_readings ≡ true
+pub breaks_only : (ed : Edition) (rs : List Reading) (room k : ℕ) → verdict_in room (written_in ed rs) ≡ Err (Broken k) → member k between_readings ≡ true
 breaks_only ed rs room k e = by _ (judged ed rs) (by_its_rules room (Broken k) (λ f. let z : ◌≡◌ {A = ℕ} 0 1 = cc in omega arith) (written_in ed rs) e)
   where
     by : (c : Call Quiet) → Judged ed rs c → c ≡ refusing (Broken k) → member k between_readings ≡ true

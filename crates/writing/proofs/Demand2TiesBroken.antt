@@ -1,4 +1,5 @@
 -- Demand 2: readings that break each tie between readings, and could be written but for it; antt computes the verdict. Assumes nothing.
+use Rattle.std.proofs.Common.{Err}
 use mathlib.Core.Path.{◌≡◌, refl}
 use mathlib.Core.List.{List, [], ◌∷◌, map}
 use Prim.Native.Nat.{ℕ, zero, suc, ◌-◌}
@@ -11,9 +12,8 @@ use Rattle.numerals.specs.Numerals.{spelled}
 use Rattle.calendar.specs.Calendar.{leaps, last_day}
 use Rattle.layout.specs.declared.Edition.TheVariants.{One, Three, Four}
 use Rattle.refusals.specs.declared.Refusal.TheVariants.{Broken}
-use Rattle.refusals.specs.declared.Verdict.TheVariants.{Refused}
 use Rattle.refusals.specs.Lent.{in_room, verdict_in}
-use Rattle.refusals.specs.declared.Verdict.{Verdict}
+use Rattle.refusals.specs.Verdicts.{Verdict}
 use Rattle.layout.specs.Page.{element, page, columns, start_of, text_of, legal, is_text, is_departure, is_coordinate, is_sign, is_temperature}
 use Rattle.layout.specs.Records.{row_from, record_from}
 use Rattle.places.specs.Places.{south, west, octant_fits, place_at, latitude_figure, longitude_figure}
@@ -56,6 +56,6 @@ broken_each =
     []
 
 -- each of those ties can be broken
-pub breaks_each : broken_each ≡ map (λ k. Refused (Broken k)) between_readings
+pub breaks_each : broken_each ≡ map (λ k. Err (Broken k)) between_readings
 unfolding in_room written_in missing said record_of record_from row_from spelled numeral_for amount_numeral place_numeral writes legal allows every value_from text_of start_of columns element page tie first_broken first_from item_of plain temperature place_of departure south west place_at latitude_figure longitude_figure same parts_of octant_tie octant_fits place_tie sign_tie digit_tie last_digit wind_tie day_tie latest_day leaps last_day is_text is_departure is_coordinate is_sign is_temperature
 breaks_each = refl

@@ -1,4 +1,5 @@
 -- Demand 2: what was written is accepted, and each of its elements reads as the reading that was given. Assumes nothing.
+use Rattle.std.proofs.Common.{None, Ok, Option, Some}
 use mathlib.Core.Path.{◌≡◌, refl, ap, ◌∙◌}
 use mathlib.Core.List.{List}
 use Prim.Native.Nat.{ℕ, ◌+◌, ◌≤◌}
@@ -6,13 +7,9 @@ use native.Mathlib.Omega.{arith}
 use lib.ListN.{length, take, drop}
 use lib.Seq.{take_at, drop_at}
 use Rattle.layout.specs.declared.Edition.{Edition}
-use Rattle.layout.specs.declared.Named.{Named}
-use Rattle.layout.specs.declared.Named.TheVariants.{Known, Unknown}
-use Rattle.refusals.specs.declared.Verdict.TheVariants.{Fine}
 use Rattle.refusals.specs.Lent.{writing, in_room, verdict_in, overwritten, left_by, Quiet}
 use Rattle.refusals.proofs.LentLaws.{has_room, Wrote, fine_means}
 use Rattle.layout.specs.Editions.{length_of, asked}
-use Rattle.checking.specs.declared.Answer.TheVariants.{Accepted}
 use Rattle.checking.specs.Check.{checked}
 use Rattle.checking.specs.Acceptable.{Acceptable}
 use Rattle.checking.proofs.LegalLaws.{legal_record}
@@ -35,7 +32,7 @@ module _ (ed : Edition) (rs : List Reading) {a : Quiet} {bytes : List ℕ} (done
   is_record : bytes ≡ record_of ed rs
   is_record = (done_means ed rs done).1
 
-  pub written_is_accepted : checked bytes ≡ Accepted ed
+  pub written_is_accepted : checked bytes ≡ Ok ed
   written_is_accepted = let w = (done_means ed rs done).0 in rw is_record ((accepted_exactly (record_of ed rs) ed).1 (acceptable ed rs w.0 w.1))
 
   pub written_reads_as_given : (e : ℕ) → 1 ≤ e → e ≤ 101 → read_as (read_of bytes).entries e ≡ given rs e
@@ -53,12 +50,12 @@ front ed rs edition before = take (length_of ed) (after rs edition before)
 
 pub record Success (rs : List Reading) (edition : ℕ) (before : List ℕ) : Type 0 where
   pub held : Edition
-  pub names : asked edition ≡ Known held
-  pub accepted : checked (front held rs edition before) ≡ Accepted held
+  pub names : asked edition ≡ Some held
+  pub accepted : checked (front held rs edition before) ≡ Ok held
   pub reads : (e : ℕ) → 1 ≤ e → e ≤ 101 → read_as (read_of (front held rs edition before)).entries e ≡ given rs e
   pub rest : drop (length_of held) (after rs edition before) ≡ drop (length_of held) before
 
-module _ (ed : Edition) (rs : List Reading) (edition : ℕ) (before : List ℕ) (names : asked edition ≡ Known ed) (w : Wrote (written_in ed rs) (length before)) where
+module _ (ed : Edition) (rs : List Reading) (edition : ℕ) (before : List ℕ) (names : asked edition ≡ Some ed) (w : Wrote (written_in ed rs) (length before)) where
   filled : after rs edition before ≡ overwritten w.bytes before
   unfolding written_as
   filled = rw (names, w.is, has_room w.says w.bytes (length before) w.fits)
@@ -77,10 +74,10 @@ module _ (ed : Edition) (rs : List Reading) (edition : ℕ) (before : List ℕ) 
         ap (λ (n : ℕ). drop n before) (written_long ed rs w.is);
   }
 
-pub success : (rs : List Reading) (edition : ℕ) (before : List ℕ) → verdict_in (length before) (written rs edition) ≡ Fine → Success rs edition before
+pub success : (rs : List Reading) (edition : ℕ) (before : List ℕ) → verdict_in (length before) (written rs edition) ≡ Ok tt → Success rs edition before
 unfolding written_as in_room
 success rs edition before fine = by (asked edition) refl fine
   where
-    by : (n : Named) → asked edition ≡ n → verdict_in (length before) (written_as n rs) ≡ Fine → Success rs edition before
-    by Unknown e f = let z : ◌≡◌ {A = ℕ} 0 1 = cc in absurd (omega arith)
-    by (Known ed) e f = succeeds ed rs edition before e (fine_means (length before) (written_in ed rs) f)
+    by : (n : Option Edition) → asked edition ≡ n → verdict_in (length before) (written_as n rs) ≡ Ok tt → Success rs edition before
+    by None e f = let z : ◌≡◌ {A = ℕ} 0 1 = cc in absurd (omega arith)
+    by (Some ed) e f = succeeds ed rs edition before e (fine_means (length before) (written_in ed rs) f)

@@ -1,5 +1,6 @@
 -- Request 2: a place that is no multiple of ten in both numbers is refused. No legal texts give it, so write answers 6 with element 6, or with a lower element
 -- whose reading none give either. Assumes nothing.
+use Rattle.std.proofs.Common.{Err, Some}
 use mathlib.Core.Path.{◌≡◌, refl, sym, ap, ◌∙◌}
 use mathlib.Core.Bool.{Bool, true, false}
 use mathlib.Core.List.{List}
@@ -9,9 +10,7 @@ use borrow.Author.Tests.{leb-true, leb-false}
 use lib.Dec.{leb, lit≤}
 use lib.IntN.{nat_abs}
 use Rattle.layout.specs.declared.Edition.{Edition}
-use Rattle.layout.specs.declared.Named.TheVariants.{Known}
 use Rattle.refusals.specs.declared.Refusal.TheVariants.{Illegal}
-use Rattle.refusals.specs.declared.Verdict.TheVariants.{Refused}
 use Rattle.refusals.specs.Lent.{in_room, verdict_in, Call, Quiet}
 use Rattle.layout.specs.Editions.{asked}
 use Rattle.layout.specs.Page.{text_of, element, is_coordinate, is_temperature, page}
@@ -31,7 +30,7 @@ use Rattle.writing.proofs.Demand2Refused.{by_record, lowest_ungivable, refused_e
 pub record By6 (rs : List Reading) (edition room : ℕ) : Type 0 where
   pub element : ℕ
   pub at_most : element ≤ 6
-  pub is : verdict_in room (written rs edition) ≡ Refused (Illegal element)
+  pub is : verdict_in room (written rs edition) ≡ Err (Illegal element)
 
 -- a place given for element 6, 7 or 8
 module _ (ed : Edition) (rs : List Reading) (f : ℕ) (low : 1 ≤ f) (high : f ≤ 101) (shared : lead f ≡ 6) (p : Place) (gave : given rs f ≡ At p) where
@@ -49,12 +48,12 @@ module _ (ed : Edition) (rs : List Reading) (f : ℕ) (low : 1 ≤ f) (high : f 
   longitude_off off g = off (tens_given g).longitude
 
   -- 6 with element 6, where legal texts give the readings before it
-  pub refused_6 : (Tens p → ⊥) → ((j : ℕ) → 1 ≤ j → j < 6 → Givable ed rs j) → (edition room : ℕ) → asked edition ≡ Known ed → verdict_in room (written rs edition) ≡ Refused (Illegal 6)
+  pub refused_6 : (Tens p → ⊥) → ((j : ℕ) → 1 ≤ j → j < 6 → Givable ed rs j) → (edition room : ℕ) → asked edition ≡ Some ed → verdict_in room (written rs edition) ≡ Err (Illegal 6)
   unfolding written_as is_coordinate is_temperature element page
   refused_6 off earlier edition room e = rw e ((refused_exactly ed rs 6 room).1 (record { low = lit≤ tt; leads = refl; none = λ g. off (tens_given g); earlier = earlier }))
 
   -- and whatever the other readings are, 6 with an element no higher
-  pub refused_by_6 : (Tens p → ⊥) → (edition room : ℕ) → asked edition ≡ Known ed → By6 rs edition room
+  pub refused_by_6 : (Tens p → ⊥) → (edition room : ℕ) → asked edition ≡ Some ed → By6 rs edition room
   unfolding written_as in_room
   refused_by_6 off edition room e = by _ refl (judged ed rs)
     where

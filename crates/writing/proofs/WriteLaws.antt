@@ -1,14 +1,15 @@
 -- What each way through `write` comes to, and what it leaves in the lent buffer. Assumes nothing.
-use mathlib.Core.Path.{◌≡◌, sym, ap, ◌∙◌}
+use Rattle.std.proofs.Common.{Some, None}
+use mathlib.Core.Path.{◌≡◌, ap, ◌∙◌}
 use mathlib.Core.List.{List, ◌++◌}
 use Prim.Native.Nat.{ℕ, ◌<◌, ◌≤◌}
 use native.Mathlib.Omega.{arith}
-use borrow.Author.Tests.{eq-eqb, ne_eqb}
+use borrow.Author.Tests.{ne_eqb}
 use lib.ListN.{length, take, drop}
-use Rattle.text.specs.First.{first_of}
+use Rattle.text.specs.First.{first_of, nonzero}
+use Rattle.text.proofs.First.{nonzero_is, nonzero_some, nonzero_none}
 use Rattle.text.proofs.Parts.{front_length}
 use Rattle.layout.specs.declared.Edition.{Edition}
-use Rattle.layout.specs.declared.Named.{Named}
 use Rattle.refusals.specs.declared.Refusal.TheVariants.{Illegal, Broken}
 use Rattle.refusals.specs.Lent.{refusing, writing, overwritten, quiet}
 use Rattle.layout.specs.Editions.{length_of}
@@ -19,7 +20,7 @@ use Rattle.reading.specs.declared.Reading.{Reading}
 use Rattle.reading.specs.Readings.{lead}
 use Rattle.spelling.specs.Spelled.{row_for, record_of}
 use Rattle.spelling.proofs.RecordLaws.{record_long}
-use Rattle.writing.specs.Written.{writes, written_in, written_as}
+use Rattle.writing.specs.Written.{writes, written_in}
 
 -- a row that was spelled, and the length of the edition's records
 pub record Spelled (ed : Edition) (rs : List Reading) (row : List ℕ) (n : ℕ) : Type 0 where
@@ -54,20 +55,16 @@ module _ {ed : Edition} {rs : List Reading} {row : List ℕ} {n : ℕ} (s : Spel
   filled_up before after h = h ∙ ap (λ (t : List ℕ). overwritten t before) is_record
 
 -- what writing comes to, by the first test that fails
-module _ (ed : Edition) (rs : List Reading) (xs : List ℕ) (x : xs ≡ record_of ed rs) (e : ℕ) (p : e ≡ first_of 101 (writes ed rs xs)) where
-  pub not_writable : (e ≡ 0 → ⊥) → (l : ℕ) → l ≡ lead e → written_in ed rs ≡ refusing (Illegal l)
+module _ (ed : Edition) (rs : List Reading) (xs : List ℕ) (x : xs ≡ record_of ed rs) where
+  pub not_writable : (e : ℕ) → nonzero (first_of 101 (writes ed rs xs)) ≡ Some e → (l : ℕ) → l ≡ lead e → written_in ed rs ≡ refusing (Illegal l)
   unfolding written_in
-  not_writable h l f = rw (← x, ← p, ne_eqb e 0 h, f)
+  not_writable e p l f = rw (← x, nonzero_is _ _ p, ne_eqb e 0 (λ z. omega (arith, nonzero_some _ _ p)), f)
 
-  module _ (z : e ≡ 0) (k : ℕ) (q : k ≡ first_broken ed xs) where
-    pub breaks : (k ≡ 0 → ⊥) → written_in ed rs ≡ refusing (Broken k)
+  module _ (z : nonzero (first_of 101 (writes ed rs xs)) ≡ None) where
+    pub breaks : (k : ℕ) → nonzero (first_broken ed xs) ≡ Some k → written_in ed rs ≡ refusing (Broken k)
     unfolding written_in
-    breaks h = rw (← x, ← p, eq-eqb e 0 z, ← q, ne_eqb k 0 h)
+    breaks k q = rw (← x, nonzero_none _ z, nonzero_is _ _ q, ne_eqb k 0 (λ e. omega (arith, nonzero_some _ _ q)))
 
-    pub writable : k ≡ 0 → written_in ed rs ≡ writing quiet (record_of ed rs)
+    pub writable : nonzero (first_broken ed xs) ≡ None → written_in ed rs ≡ writing quiet (record_of ed rs)
     unfolding written_in
-    writable h = rw (← x, ← p, eq-eqb e 0 z, ← q, eq-eqb k 0 h)
-
--- the edition that an arm was taken at
-pub at_name : {m n : Named} (rs : List Reading) → m ≡ n → written_as n rs ≡ written_as m rs
-at_name rs e = sym (ap (λ (q : Named). written_as q rs) e)
+    writable q = rw (← x, nonzero_none _ z, nonzero_none _ q)

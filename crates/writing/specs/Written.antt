@@ -1,9 +1,7 @@
 -- What writing a record from readings comes to: 8, 6, 7 in this order, or the record. Room, 9, is the last rule of every call with a lent buffer. Assumes nothing.
-use Rattle.std.specs.Prelude.{ℕ, Bool, ◌&&◌, List}
+use Rattle.std.specs.Prelude.{ℕ, Bool, ◌&&◌, List, None, Option, Some}
 use Rattle.text.specs.First.{first_of}
 use Rattle.layout.specs.declared.Edition.{Edition}
-use Rattle.layout.specs.declared.Named.{Named}
-use Rattle.layout.specs.declared.Named.TheVariants.{Known, Unknown}
 use Rattle.refusals.specs.declared.Refusal.TheVariants.{Illegal, Broken, Unheld}
 use Rattle.layout.specs.Editions.{asked, last_element}
 use Rattle.layout.specs.Page.{legal}
@@ -27,9 +25,9 @@ written_in ed rs =
     (writing quiet (record_of ed rs)))
 
 -- 8: the edition that is asked for
-unfoldable pub written_as : Named → List Reading → Call Quiet
-written_as Unknown rs = refusing Unheld
-written_as (Known ed) rs = written_in ed rs
+unfoldable pub written_as : Option Edition → List Reading → Call Quiet
+written_as None rs = refusing Unheld
+written_as (Some ed) rs = written_in ed rs
 
 abbrev pub written : List Reading → ℕ → Call Quiet
 written rs edition = written_as (asked edition) rs

@@ -7,28 +7,23 @@
 #![tactic(auto)]
 
 ghost use Rattle.std.specs.Prelude.{◌≡◌, true, ◌&&◌, length};
-ghost use Rattle.text.specs.First.{first_of};
+ghost use Rattle.text.specs.First.{first_of, nonzero};
 ghost use Rattle.refusals.specs.Lent.{verdict_of, Answers};
 ghost use Rattle.layout.specs.Editions.{length_of, last_element};
 ghost use Rattle.layout.specs.Page.{legal};
 ghost use Rattle.checking.specs.Check.{checked};
-ghost use Rattle.reading.specs.Answers.{readings};
 ghost use Rattle.spelling.specs.Same.{same};
 ghost use Rattle.writing.specs.Written.{writes, written_in, written};
 
-use checking::Answer;
-use layout::{ELEMENTS, Edition, LONGEST, Named, page};
-use reading::{Entry, Reading};
+use layout::{ELEMENTS, Edition, LONGEST, page};
+use reading::Reading;
 use refusals::{Refusal, Verdict};
 
 // Does a check accept the text in this edition? Then every element of it is legal, and none has to be asked.
 fn is_accepted(edition: Edition, text: &[u8]) -> bool
-    ensures { result ≡ true → checked text.now ≡ Answer.Accepted edition }
+    ensures { result ≡ true → checked text.now ≡ Ok edition }
 {
-    match checking::check(text) {
-        Answer::Accepted(held) => held.number() == edition.number(),
-        Answer::Refused(_) => false,
-    }
+    checking::check(text) == Ok(edition)
 }
 
 // Is element e of the text legal? Of a text that a check accepts this is known.
@@ -57,57 +52,49 @@ fn is_written(
     is_legal(edition, text, e, is_known) && spelling::is_same(read, given)
 }
 
-// The lowest element that is not written as it was given, or 0.
-fn first_unwritten(edition: Edition, entries: [Entry; ELEMENTS], text: &[u8]) -> usize
+// The lowest element that is not written as it was given, if there is one.
+fn first_unwritten(edition: Edition, entries: [Reading; ELEMENTS], text: &[u8]) -> Option<usize>
     requires { length text.now ≡ length_of edition }
-    ensures { result ≡ first_of last_element (writes edition (readings entries) text.now) }
+    ensures { result ≡ nonzero (first_of last_element (writes edition entries text.now)) }
 {
-    let back = reading::read_after(Answer::Accepted(edition), text);
+    let back = reading::read_after(Ok(edition), text);
     let is_known = is_accepted(edition, text);
-    let mut e = 1;
-    while e <= ELEMENTS {
+    for e in 1..ELEMENTS + 1 {
         let k = e - 1;
-        let there = back.entries[k];
-        let read = there.reading;
-        let entry = entries[k];
-        let given = entry.reading;
-        if !is_written(edition, text, e, is_known, read, given) {
-            return e;
+        if !is_written(edition, text, e, is_known, back.entries[k], entries[k]) {
+            return Some(e);
         }
-        e += 1;
     }
-    0
+    None
 }
 
 // Writes a record of an edition that is held.
-fn write_in(edition: Edition, entries: [Entry; ELEMENTS], buffer: &mut [u8]) -> Verdict
-    ensures { Answers verdict_of (written_in edition (readings entries)) buffer.old buffer.new result }
+fn write_in(edition: Edition, entries: [Reading; ELEMENTS], buffer: &mut [u8]) -> Verdict
+    ensures { Answers verdict_of (written_in edition entries) buffer.old buffer.new result }
 {
     let length = edition.length();
-    let mut row = [32u8; LONGEST];
+    let mut row = [b' '; LONGEST];
     spelling::put_all(edition, entries, &mut row);
-    let e = first_unwritten(edition, entries, &row[..length]);
-    if e != 0 {
-        return Verdict::Refused(Refusal::Illegal(reading::lead_of(e)));
+    let record = &row[..length];
+    if let Some(e) = first_unwritten(edition, entries, record) {
+        return Err(Refusal::Illegal(reading::lead_of(e)));
     }
-    let k = ties::first_broken(edition, &row[..length]);
+    let k = ties::first_broken(edition, record);
     if k != 0 {
-        return Verdict::Refused(Refusal::Broken(k));
+        return Err(Refusal::Broken(k));
     }
     if buffer.len() < length {
-        return Verdict::Refused(Refusal::Room);
+        return Err(Refusal::Room);
     }
-    octets::copy(&row[..length], buffer);
-    Verdict::Fine
+    octets::copy(record, buffer);
+    Ok(())
 }
 
 // Writes a record from 101 entries, as `reading::read` answers them: any readings, any edition number, any
 // buffer. Success writes the first 131 or 159 bytes; a refusal writes none.
-pub fn write(entries: [Entry; ELEMENTS], edition: u64, buffer: &mut [u8]) -> Verdict
-    ensures { Answers verdict_of (written (readings entries) edition) buffer.old buffer.new result }
+pub fn write(entries: [Reading; ELEMENTS], edition: u64, buffer: &mut [u8]) -> Verdict
+    ensures { Answers verdict_of (written entries edition) buffer.old buffer.new result }
 {
-    match Edition::of_number(edition) {
-        Named::Known(held) => write_in(held, entries, buffer),
-        Named::Unknown => Verdict::Refused(Refusal::Unheld),
-    }
+    let held = Edition::of_number(edition).ok_or(Refusal::Unheld)?;
+    write_in(held, entries, buffer)
 }

@@ -19,7 +19,7 @@ use Rattle.reading.proofs.read_after.Goals as goal
 
 -- the element's columns, d of them, end within the record
 ends : (c : In-loop-e) (d : ℕ) → d ≡ width_of c.loop-e.e → c.loop-e.at + d ≤ length c.args.line.now
-ends c d wide = within _ _ _ c.loop-e.invariant.1.0 wide c.in-Accepted.edition c.args.line.now _ c.last-last.ensures (c.requires c.in-Accepted.edition c.in-Accepted.is) (omega (arith, c.loop-e-test.true))
+ends c d wide = within _ _ _ c.loop-e.invariant.1.0 wide c.in-Ok.edition c.args.line.now _ c.last-last.ensures (c.requires c.in-Ok.edition c.in-Ok.is) (omega (arith, c.loop-e-test.true))
 
 is_one : (c : Then-is_single) → single c.loop-e.e ≡ true
 is_one c = sym c.is_single.ensures ∙ c.if-is_single.true
@@ -40,7 +40,7 @@ passed c = let lead = lead_is _ c.loop-e.auto.e in (rw c.lead_of-lead.ensures le
 
 pub loop-e-init : goal.loop-e-init
 unfolding start_of columns entries_from
-loop-e-init c = (omega (arith, c.last-last.ensures, last_below c.in-Accepted.edition), (refl, refl))
+loop-e-init c = (omega (arith, c.last-last.ensures, last_below c.in-Ok.edition), (refl, refl))
 
 pub bounds-line-at : goal.bounds-line-at
 bounds-line-at c = omega (arith, ends (goal.at.bounds-line-at c).In-loop-e 1 (one_wide (goal.at.bounds-line-at c).Then-is_single))
@@ -64,7 +64,7 @@ pub loop-e-preserved : goal.loop-e-preserved
 loop-e-preserved c =
     let inv = c.loop-e.invariant in
     let e = c.loop-e.e in
-    let ed = c.in-Accepted.edition in
+    let ed = c.in-Ok.edition in
     let line = c.args.line.now in
     let few : e ≤ 101 = omega (arith, inv.0, c.loop-e-test.true) in
     let within-line = ends (goal.at.loop-e-preserved c).In-loop-e in
@@ -87,8 +87,8 @@ loop-e-preserved c =
 pub returns-after-loop-e : goal.returns-after-loop-e
 unfolding read_after
 returns-after-loop-e c =
-    holds_end _ _ _ _ c.loop-e.invariant.1.1 (λ i l h. lacking c.in-Accepted.edition _ i (c.requires c.in-Accepted.edition c.in-Accepted.is) (omega (arith, c.loop-e-test.false, c.last-last.ensures))) ∙
-    as_known _ _ c.in-Accepted.is refl
+    holds_end _ _ _ _ c.loop-e.invariant.1.1 (λ i l h. lacking c.in-Ok.edition _ i (c.requires c.in-Ok.edition c.in-Ok.is) (omega (arith, c.loop-e-test.false, c.last-last.ensures))) ∙
+    as_known _ _ c.in-Ok.is refl
 
 pub returns-in_default : goal.returns-in_default
 unfolding entries_from read_after

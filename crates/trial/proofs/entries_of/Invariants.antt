@@ -1,4 +1,4 @@
-use Prim.Native.Nat.{◌+◌, ◌-◌, ◌≤◌}
+use Prim.Native.Nat.{◌+◌, ◌-◌}
 use Rattle.reading.proofs.EntryLaws.{below}
 use Rattle.reading.specs.Answers.{entries_of}
 use Rattle.trial.specs.Packed.{reading_at}
@@ -6,7 +6,4 @@ use mathlib.Core.Path.{◌≡◌}
 use Rattle.trial.proofs.entries_of.Given as goal
 
 abbrev pub invariant-loop-k : goal.invariant-loop-k
-invariant-loop-k l = (l.k ≤ 101) × (l.entries ≡ entries_of (below (l.k + 1) (λ e. reading_at l.numbers l.amounts (e - 1))))
-
-abbrev pub decreases-loop-k : goal.decreases-loop-k
-decreases-loop-k l = 101 - l.k
+invariant-loop-k l = l.entries ≡ entries_of (below (l.k + 1) (λ e. reading_at l.numbers l.amounts (e - 1)))

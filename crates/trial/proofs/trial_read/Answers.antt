@@ -17,8 +17,8 @@ put_all-requires c =
 pub returns-then-has_room-clause-value : goal.returns-then-has_room-clause-value
 returns-then-has_room-clause-value c =
     let read = c.read-all.ensures in
-    let verdict = c.verdict-verdict.ensures ∙ ap (λ (r : Readings). answer_verdict r.answer) read in
-    c.number-number.ensures ∙ ap verdict_number verdict
+    let verdict = c.verdict_of-verdict.ensures ∙ ap (λ (r : Readings). answer_verdict r.answer) read in
+    c.number_of-number.ensures ∙ ap verdict_number verdict
 
 pub returns-then-has_room-clause-numbers_after : goal.returns-then-has_room-clause-numbers_after
 returns-then-has_room-clause-numbers_after c =
@@ -42,14 +42,14 @@ returns-then-has_room-clause-edition_after c =
 pub returns-then-has_room-clause-place_after : goal.returns-then-has_room-clause-place_after
 returns-then-has_room-clause-place_after c =
     let read = c.read-all.ensures in
-    let verdict = c.verdict-verdict.ensures ∙ ap (λ (r : Readings). answer_verdict r.answer) read in
-    c.place-at.ensures ∙ ap verdict_place verdict
+    let verdict = c.verdict_of-verdict.ensures ∙ ap (λ (r : Readings). answer_verdict r.answer) read in
+    c.place_of-at.ensures ∙ ap verdict_place verdict
 
 pub returns-else-has_room-clause-value : goal.returns-else-has_room-clause-value
 returns-else-has_room-clause-value c =
     let read = c.read-all.ensures in
-    let verdict = c.verdict-verdict.ensures ∙ ap (λ (r : Readings). answer_verdict r.answer) read in
-    c.number-number.ensures ∙ ap verdict_number verdict
+    let verdict = c.verdict_of-verdict.ensures ∙ ap (λ (r : Readings). answer_verdict r.answer) read in
+    c.number_of-number.ensures ∙ ap verdict_number verdict
 
 pub returns-else-has_room-clause-numbers_after : goal.returns-else-has_room-clause-numbers_after
 returns-else-has_room-clause-numbers_after c =
@@ -71,5 +71,5 @@ returns-else-has_room-clause-edition_after c =
 pub returns-else-has_room-clause-place_after : goal.returns-else-has_room-clause-place_after
 returns-else-has_room-clause-place_after c =
     let read = c.read-all.ensures in
-    let verdict = c.verdict-verdict.ensures ∙ ap (λ (r : Readings). answer_verdict r.answer) read in
-    c.place-at.ensures ∙ ap verdict_place verdict
+    let verdict = c.verdict_of-verdict.ensures ∙ ap (λ (r : Readings). answer_verdict r.answer) read in
+    c.place_of-at.ensures ∙ ap verdict_place verdict

@@ -1,14 +1,10 @@
 -- `writing::is_accepted` meets its contract. Assumes nothing.
-use mathlib.Core.Path.{sym, ap, ◌∙◌}
-use mathlib.Core.Bool.{false≢true}
-use Rattle.checking.specs.declared.Answer.TheVariants.{Accepted}
-use Rattle.layout.proofs.RecordLaws.{same_number}
-use borrow.Author.Tests.{eqb-true}
+use Rattle.std.proofs.Common.{◌≡◌, Ok, sym, ◌∙◌}
+use Rattle.std.proofs.lemmas.Grind.{common_steps}
+use native.Mathlib.Omega.{arith}
 use Rattle.writing.proofs.is_accepted.Goals as goal
 
-pub returns-in-Accepted : goal.returns-in-Accepted
-returns-in-Accepted c = λ t.
-    sym c.check.ensures ∙ c.in-Accepted.is ∙ ap Accepted (same_number _ _ (sym c.number.ensures ∙ eqb-true _ _ t ∙ c.number-in-Accepted.ensures))
-
-pub returns-in-Refused : goal.returns-in-Refused
-returns-in-Refused c = λ t. absurd (false≢true t)
+pub returns : goal.returns
+returns c = λ t.
+    let same : c.check.result ≡ Ok c.args.edition = grind (arith, common_steps, c.eq.ensures) in
+    sym c.check.ensures ∙ same

@@ -1,21 +1,23 @@
 -- `writing::write` meets its contract. Assumes nothing.
+use Rattle.std.proofs.Common.{◌≡◌, Option, Some, None, Err, ap, sym, arith}
+use Rattle.std.proofs.lemmas.Grind.{common_steps}
+use Rattle.layout.specs.declared.Edition.{Edition}
+use Rattle.layout.specs.Editions.{asked}
+use Rattle.refusals.specs.declared.Refusal.TheVariants.{Unheld}
 use Rattle.refusals.specs.Lent.{verdict_of}
 use Rattle.refusals.proofs.LentLaws.{refuses, same_call}
-use Rattle.reading.specs.Answers.{readings}
-use Rattle.writing.proofs.WriteLaws.{at_name}
 use Rattle.writing.specs.Written.{written_as}
-use mathlib.Core.Path.{◌∙◌, ap, refl, sym}
-use Rattle.layout.specs.declared.Named.{Named}
 use Rattle.writing.proofs.write.Goals as goal
 
-pub returns-in-Known : goal.returns-in-Known
+pub returns-in_err-held : goal.returns-in_err-held
 unfolding written_as
-returns-in-Known c =
-    let args = c.args in
-    same_call _ _ verdict_of (at_name _ c.in-Known.is ∙ ap (λ (q : Named). written_as q (readings args.entries)) c.of_number.ensures) c.write_in.ensures
+returns-in_err-held c =
+    let none : asked c.args.edition ≡ None = grind (arith, common_steps) in
+    let said : c.from_residual.result ≡ Err Unheld = grind (arith, common_steps) in
+    refuses _ _ verdict_of (ap (λ (q : Option Edition). written_as q c.args.entries) none) said
 
-pub returns-in-Unknown : goal.returns-in-Unknown
+pub returns : goal.returns
 unfolding written_as
-returns-in-Unknown c =
-    let args = c.args in
-    refuses _ _ verdict_of (sym (at_name _ c.in-Unknown.is ∙ ap (λ (q : Named). written_as q (readings args.entries)) c.of_number.ensures)) refl
+returns c =
+    let some : asked c.args.edition ≡ Some c.in_ok-held.held = grind (arith, common_steps) in
+    same_call _ _ verdict_of (ap (λ (q : Option Edition). written_as q c.args.entries) (sym some)) c.write_in.ensures

@@ -15,19 +15,20 @@ use Rattle.layout.specs.declared.Edition.TheVariants.{One, Three, Four}
 use Rattle.faults.specs.Faults.{no}
 use Rattle.faults.proofs.Joins.{passed}
 use Rattle.text.proofs.Bits.{or_left, or_right}
+use Rattle.columns.specs.declared.Table.{Table}
 use Rattle.columns.specs.Tables.{allowed, joined, Cell, cell, cells, bonds, cell_at, bond_at, fits, Column, Range, cut, Rows, Shared, Own, Columns}
 use Rattle.text.proofs.Ways.{second_holds}
 use Rattle.columns.proofs.Cells.{first_run, second_run}
 
 -- column j of the sixteen, against the rows
-pub record Judged (xs : List ℕ) (at : ℕ) (low high also to bond : List ℕ) (j : ℕ) : Type 0 where
-  pub held : get_or low j 0 ≤ get_or high j 0 → get_or also j 0 ≤ get_or to j 0 → allowed (get_or low j 0) (get_or high j 0) (get_or also j 0) (get_or to j 0) (get_or xs (at + j) 0) ≡ true
-  pub bound : joined (get_or bond j 0) (get_or xs (at + j) 0) (get_or xs (at + j + 1) 0) ≡ true
+pub record Judged (xs : List ℕ) (at : ℕ) (r : Table) (j : ℕ) : Type 0 where
+  pub held : get_or r.low j 0 ≤ get_or r.high j 0 → get_or r.also j 0 ≤ get_or r.to j 0 → allowed (get_or r.low j 0) (get_or r.high j 0) (get_or r.also j 0) (get_or r.to j 0) (get_or xs (at + j) 0) ≡ true
+  pub bound : joined (get_or r.bond j 0) (get_or xs (at + j) 0) (get_or xs (at + j + 1) 0) ≡ true
 
 -- what the code's two tests of it say
-pub judge : {xs low high also to bond : List ℕ} {at j : ℕ} (o a : ℕ) →
-    (get_or low j 0 ≤ get_or high j 0 → get_or also j 0 ≤ get_or to j 0 → o ≡ no (allowed (get_or low j 0) (get_or high j 0) (get_or also j 0) (get_or to j 0) (get_or xs (at + j) 0))) →
-    a ≡ no (joined (get_or bond j 0) (get_or xs (at + j) 0) (get_or xs (at + j + 1) 0)) → bit_or o a ≡ 0 → Judged xs at low high also to bond j
+pub judge : {xs : List ℕ} {r : Table} {at j : ℕ} (o a : ℕ) →
+    (get_or r.low j 0 ≤ get_or r.high j 0 → get_or r.also j 0 ≤ get_or r.to j 0 → o ≡ no (allowed (get_or r.low j 0) (get_or r.high j 0) (get_or r.also j 0) (get_or r.to j 0) (get_or xs (at + j) 0))) →
+    a ≡ no (joined (get_or r.bond j 0) (get_or xs (at + j) 0) (get_or xs (at + j + 1) 0)) → bit_or o a ≡ 0 → Judged xs at r j
 judge o a f g z = record { held = λ l m. passed _ (f l m) (or_left o a z); bound = passed _ g (or_right o a z) }
 
 cut_at : (t : List ℕ) (at k : ℕ) → k < 16 → get_or (cut at t) k 0 ≡ get_or t (at + k) 0
@@ -40,15 +41,15 @@ module _ (ed : Edition) (xs : List ℕ) (at : ℕ) where
   field f z t e k h =
       ap (λ (s : List ℕ). get_or s k 0) e ∙ cut_at (map f (cells ed)) at k h ∙ ap (get_or (map f (cells ed)) (at + k)) (sym z) ∙ get_or-map f (cells ed) (at + k) (cell 0 0 0 0)
 
-  pub range_of : (low high also to bond : List ℕ) → ((j : ℕ) → j < 16 → Judged xs at low high also to bond j) → Rows ed at low high also to bond → Range ed xs at (at + 16)
+  pub range_of : (r : Table) → ((j : ℕ) → j < 16 → Judged xs at r j) → Rows ed at r → Range ed xs at (at + 16)
   unfolding bond_at
-  range_of low high also to bond p e k l h =
+  range_of r p e k l h =
       let j : k - at < 16 = omega arith in
-      let a : get_or low (k - at) 0 ≡ (cell_at ed (at + (k - at))).low = field (λ c. c.low) refl low (cc) (k - at) j in
-      let b : get_or high (k - at) 0 ≡ (cell_at ed (at + (k - at))).high = field (λ c. c.high) refl high (cc) (k - at) j in
-      let c : get_or also (k - at) 0 ≡ (cell_at ed (at + (k - at))).also = field (λ c. c.also) refl also (cc) (k - at) j in
-      let d : get_or to (k - at) 0 ≡ (cell_at ed (at + (k - at))).to = field (λ c. c.to) refl to (cc) (k - at) j in
-      let f : bond ≡ cut at bonds = cc in
+      let a : get_or r.low (k - at) 0 ≡ (cell_at ed (at + (k - at))).low = field (λ c. c.low) refl r.low (cc) (k - at) j in
+      let b : get_or r.high (k - at) 0 ≡ (cell_at ed (at + (k - at))).high = field (λ c. c.high) refl r.high (cc) (k - at) j in
+      let c : get_or r.also (k - at) 0 ≡ (cell_at ed (at + (k - at))).also = field (λ c. c.also) refl r.also (cc) (k - at) j in
+      let d : get_or r.to (k - at) 0 ≡ (cell_at ed (at + (k - at))).to = field (λ c. c.to) refl r.to (cc) (k - at) j in
+      let f : r.bond ≡ cut at bonds = cc in
       let here : at + (k - at) ≡ k = omega arith in
       subst (Column ed xs) here
       (record {

@@ -6,6 +6,7 @@ use Rattle.text.specs.Bytes.{either}
 use Rattle.text.specs.declared.LegalTexts.{LegalTexts}
 use Rattle.text.specs.declared.LegalTexts.TheVariants.{Nothing, Printable, Letters, CallSign, DigitOr, Within, Either, OneOf}
 use Rattle.layout.specs.declared.Edition.{Edition}
+use Rattle.columns.specs.declared.Table.{Table}
 use Rattle.layout.specs.Editions.{length_of}
 use Rattle.layout.specs.Page.{Element, page, legal_texts_in}
 
@@ -99,8 +100,8 @@ rows ed at =
     cut at bonds ∷
     []
 
-abbrev pub Rows : Edition → ℕ → List ℕ → List ℕ → List ℕ → List ℕ → List ℕ → Type 0
-Rows ed at low high also to bond = (low ∷ high ∷ also ∷ to ∷ bond ∷ []) ≡ rows ed at
+abbrev pub Rows : Edition → ℕ → Table → Type 0
+Rows ed at t = (t.low ∷ t.high ∷ t.also ∷ t.to ∷ t.bond ∷ []) ≡ rows ed at
 
 -- the columns that all editions have alike, those that an edition has of its own, and all of them
 abbrev pub Shared : List ℕ → Type 0

@@ -33,25 +33,32 @@ fn apart(b: u8, next: u8, bond: u8) -> u8
     other(equal(b, 32), equal(next, 32)) & (equal(bond, 61) | (past(bond, 60) & equal(b, 32)))
 }
 
+// What sixteen columns may hold, a character of each row for each column.
+#[derive(Clone, Copy)]
+pub struct Table {
+    // the first run
+    pub low: [u8; 16],
+    pub high: [u8; 16],
+    // the second
+    pub also: [u8; 16],
+    pub to: [u8; 16],
+    // with the next column
+    pub bond: [u8; 16],
+}
+
 // 0 only where the sixteen columns from `at` on hold what an edition allows, if the rows are the
 // edition's. No byte makes a branch, so that the compiler takes all sixteen at once.
-pub fn part(
-    line: &[u8],
-    at: usize,
-    low: [u8; 16],
-    high: [u8; 16],
-    also: [u8; 16],
-    to: [u8; 16],
-    bond: [u8; 16],
-) -> u8
+pub fn part(line: &[u8], at: usize, table: Table) -> u8
     requires { at + 17 ≤ length line.now }
-    ensures { result ≡ 0 → (ed : Edition) → Rows ed at low high also to bond → Range ed line.now at (at + 16) }
+    ensures { result ≡ 0 → (ed : Edition) → Rows ed at table → Range ed line.now at (at + 16) }
 {
     let mut bad: u8 = 0;
     for k in 0..16 {
         let b = line[at + k];
         let next = line[at + k + 1];
-        bad = bad | (outside(b, low[k], high[k], also[k], to[k]) | apart(b, next, bond[k]));
+        bad = bad
+            | (outside(b, table.low[k], table.high[k], table.also[k], table.to[k])
+                | apart(b, next, table.bond[k]));
     }
     bad
 }
@@ -64,11 +71,13 @@ fn wind(line: &[u8]) -> u8
     part(
         line,
         16,
-        *b"0000000000000000",
-        *b"9993999999199199",
-        *b"0000/00/00300000",
-        *b"9993/99/99499199",
-        *b"==...=..=.>=.===",
+        Table {
+            low: *b"0000000000000000",
+            high: *b"9993999999199199",
+            also: *b"0000/00/00300000",
+            to: *b"9993/99/99499199",
+            bond: *b"==...=..=.>=.===",
+        },
     )
 }
 
@@ -80,11 +89,13 @@ fn weather(line: &[u8]) -> u8
     part(
         line,
         32,
-        *b"0000000000000000",
-        *b"9299999999999999",
-        *b"0500000000000///",
-        *b"9799999999999///",
-        *b".===.===.=......",
+        Table {
+            low: *b"0000000000000000",
+            high: *b"9299999999999999",
+            also: *b"0500000000000///",
+            to: *b"9799999999999///",
+            bond: *b".===.===.=......",
+        },
     )
 }
 
@@ -96,11 +107,13 @@ fn sea(line: &[u8]) -> u8
     part(
         line,
         48,
-        *b"0000000000000000",
-        *b"9199979999999999",
-        *b"/000000000000000",
-        *b"/199979999999999",
-        *b".===...=.=.=.=.=",
+        Table {
+            low: *b"0000000000000000",
+            high: *b"9199979999999999",
+            also: *b"/000000000000000",
+            to: *b"/199979999999999",
+            bond: *b".===...=.=.=.=.=",
+        },
     )
 }
 
@@ -112,11 +125,13 @@ fn rain(line: &[u8]) -> u8
     part(
         line,
         80,
-        *b" 010000000000000",
-        *b"~644999929998999",
-        *b" 970000050000000",
-        *b"~974999979998999",
-        *b"....==..===..==.",
+        Table {
+            low: *b" 010000000000000",
+            high: *b"~644999929998999",
+            also: *b" 970000050000000",
+            to: *b"~974999979998999",
+            bond: *b"....==..===..==.",
+        },
     )
 }
 
@@ -128,11 +143,13 @@ pub fn later_date(line: &[u8]) -> u8
     part(
         line,
         0,
-        *b"3000000000010000",
-        *b"5999999999939999",
-        *b"3000000000050000",
-        *b"5999999999979999",
-        *b".===.=.=.=.=====",
+        Table {
+            low: *b"3000000000010000",
+            high: *b"5999999999939999",
+            also: *b"3000000000050000",
+            to: *b"5999999999979999",
+            bond: *b".===.=.=.=.=====",
+        },
     )
 }
 
@@ -144,11 +161,13 @@ pub fn early_flags(line: &[u8]) -> u8
     part(
         line,
         112,
-        *b"0000000000000000",
-        *b"5555555555555555",
-        *b"9999999999999999",
-        *b"9999999999999999",
-        *b"................",
+        Table {
+            low: *b"0000000000000000",
+            high: *b"5555555555555555",
+            also: *b"9999999999999999",
+            to: *b"9999999999999999",
+            bond: *b"................",
+        },
     )
 }
 

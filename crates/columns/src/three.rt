@@ -3,7 +3,7 @@ ghost use Rattle.std.specs.Prelude.{◌≡◌, ◌≤◌, length};
 ghost use Rattle.layout.specs.Editions.{longest_record};
 ghost use Rattle.columns.specs.Tables.{Range, Own};
 
-use crate::{early_flags, later_date, outside, part};
+use crate::{Table, early_flags, later_date, outside, part};
 use layout::Edition;
 
 // Columns 65 to 80: the ice on the ship, the platform, the call sign and the country.
@@ -14,11 +14,13 @@ fn ship(line: &[u8]) -> u8
     part(
         line,
         64,
-        *b"01000000000000AA",
-        *b"95994699999999ZZ",
-        *b"0100000AAAAAAAAA",
-        *b"9599469ZZZZZZZZZ",
-        *b"..=....==>>>>.=.",
+        Table {
+            low: *b"01000000000000AA",
+            high: *b"95994699999999ZZ",
+            also: *b"0100000AAAAAAAAA",
+            to: *b"9599469ZZZZZZZZZ",
+            bond: *b"..=....==>>>>.=.",
+        },
     )
 }
 
@@ -30,11 +32,13 @@ fn ice(line: &[u8]) -> u8
     part(
         line,
         96,
-        *b"0000000000000030",
-        *b"9999999999999835",
-        *b"//000000/////039",
-        *b"//999999/////839",
-        *b"..=.=.=.........",
+        Table {
+            low: *b"0000000000000030",
+            high: *b"9999999999999835",
+            also: *b"//000000/////039",
+            to: *b"//999999/////839",
+            bond: *b"..=.=.=.........",
+        },
     )
 }
 
@@ -46,11 +50,13 @@ fn course(line: &[u8]) -> u8
     part(
         line,
         128,
-        *b"0001000000000000",
-        *b"5555999999999999",
-        *b"9991000000000000",
-        *b"9995999999999999",
-        *b"....==.==.=.=.==",
+        Table {
+            low: *b"0001000000000000",
+            high: *b"5555999999999999",
+            also: *b"9991000000000000",
+            to: *b"9995999999999999",
+            bond: *b"....==.==.=.=.==",
+        },
     )
 }
 
@@ -62,11 +68,13 @@ fn last(line: &[u8]) -> u8
     part(
         line,
         142,
-        *b"0000000000000000",
-        *b"9999999995555555",
-        *b"0000000009999999",
-        *b"9999999999999999",
-        *b"==.==.==........",
+        Table {
+            low: *b"0000000000000000",
+            high: *b"9999999995555555",
+            also: *b"0000000009999999",
+            to: *b"9999999999999999",
+            bond: *b"==.==.==........",
+        },
     ) | outside(line[line.len() - 1], 48, 53, 57, 57)
 }
 

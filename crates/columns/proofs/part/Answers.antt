@@ -17,4 +17,4 @@ loop-k-preserved c =
     below_more _ _ r.0 r.1
 
 pub returns : goal.returns
-returns c = λ z ed rows. range_of ed _ _ _ _ _ _ _ (λ j h. c.loop-k.invariant z j (omega arith)) rows
+returns c = λ z ed rows. range_of ed _ _ _ (λ j h. c.loop-k.invariant z j (omega arith)) rows

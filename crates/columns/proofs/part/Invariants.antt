@@ -4,4 +4,4 @@ use Rattle.columns.proofs.Ranges.{Judged}
 use Rattle.columns.proofs.part.Given as goal
 
 abbrev pub invariant-loop-k : goal.invariant-loop-k
-invariant-loop-k l = l.bad ≡ 0 → (j : ℕ) → j < l.k → Judged l.line l.at l.low l.high l.also l.to l.bond j
+invariant-loop-k l = l.bad ≡ 0 → (j : ℕ) → j < l.k → Judged l.line l.at l.fn.table j

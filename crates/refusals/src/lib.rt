@@ -32,7 +32,8 @@ pub enum Refusal {
 }
 
 impl Refusal {
-    // The refusal's number in the table.
+    // The refusal's number in the table, which the calls for C answer and README.md's table gives: no derive
+    // makes it, since three refusals bring a place.
     pub fn number(self) -> u64
         ensures { result ≡ number_of self }
     {

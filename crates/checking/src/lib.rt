@@ -66,8 +66,7 @@ fn check_in(edition: Edition, line: &[u8]) -> Answer
     if let Some(e) = page::first_illegal(edition, line) {
         return Err(Refusal::Illegal(e));
     }
-    let k = ties::first_broken(edition, line);
-    if k != 0 {
+    if let Some(k) = ties::first_broken(edition, line) {
         return Err(Refusal::Broken(k));
     }
     Ok(edition)

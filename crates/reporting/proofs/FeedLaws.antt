@@ -1,14 +1,14 @@
 -- A piece that is fed line after line: what is taken of it so far, and what is said of that. Assumes nothing.
-use mathlib.Core.Path.{◌≡◌, refl, sym, ap, ◌∙◌}
+use mathlib.Core.Path.{◌≡◌, refl, sym, ap, ap₂, ◌∙◌}
 use mathlib.Core.Bool.{Bool, true, false}
 use mathlib.Core.List.{List, [], ◌∷◌, ◌++◌, append_assoc, append-nil}
-use Prim.Native.Nat.{ℕ, zero, suc, ◌+◌, ◌-◌, ◌<◌, ◌≤◌, min}
+use Prim.Native.Nat.{ℕ, zero, suc, ◌+◌, ◌-◌, ◌<◌, ◌≤◌}
 use native.Mathlib.Numerals.{add-one}
 use native.Mathlib.Omega.{arith}
 use borrow.Author.Tests.{eqb-true}
 use lib.Dec.{eqb}
 use lib.ListN.{length, get_or, take, drop, length-drop}
-use lib.Seq.{get_or-drop, take_all, take-add, take-suc, length-take-le}
+use lib.Seq.{get_or-drop, take_all, take-add, take-suc}
 use Rattle.octets.specs.Octets.{index_of, index_after}
 use Rattle.wording.specs.Puts.{Puts}
 use Rattle.report_lines.specs.Says.{record_most}
@@ -17,11 +17,10 @@ use Rattle.reporting.specs.declared.Run.{Run}
 use Rattle.reporting.specs.declared.Told.{Told}
 use Rattle.reporting.specs.Lines.{next_end}
 use Rattle.reporting.specs.Run.{State, state, ledger_after, said_of, kept, step, state_after, said_by}
-use Rattle.reporting.specs.FeedClauses.{Tells, Feeds}
+use Rattle.reporting.specs.FeedClauses.{view, Tells, Feeds}
 use Rattle.wording.proofs.PutLaws.{nothing, also}
 use Rattle.reporting.proofs.CutLaws.{kept_cut}
 use Rattle.reporting.proofs.RunLaws.{state_append, said_append}
-use Rattle.reporting.proofs.FinishLaws.{held_view}
 
 -- the bytes before the first line end are held, and nothing is said of them
 module _ (l : Ledger) where
@@ -60,24 +59,21 @@ found (b ∷ rest) h = by (eqb b 10) refl (found rest) h
     by false e there k = there (omega arith)
 
 -- what is taken of the piece so far, and what stands where
-pub record SoFar (s : State) (piece before now held : List ℕ) (l : Ledger) (count at written : ℕ) : Type 0 where
-  pub short : count ≤ 160
-  pub full : length held ≡ 160
+pub record SoFar (s : State) (piece before now held : List ℕ) (l : Ledger) (at written : ℕ) : Type 0 where
   pub within : at ≤ length piece
   pub room : written ≤ length before
   pub long : length now ≡ length before
-  pub after : state_after s (take at piece) ≡ state l (take count held)
+  pub after : state_after s (take at piece) ≡ state l held
   pub said : Puts (said_by s (take at piece)) 0 before now written
 
-pub so_far_none : (l : Ledger) (held piece before : List ℕ) (count : ℕ) → count ≤ 160 → length held ≡ 160 →
-    SoFar (state l (take count held)) piece before before held l count 0 0
+pub so_far_none : (l : Ledger) (held piece before : List ℕ) → SoFar (state l held) piece before before held l 0 0
 unfolding state_after said_by
-so_far_none l held piece before count h k =
-    record { short = h; full = k; within = omega arith; room = omega arith; long = refl; after = refl; said = nothing 0 before }
+so_far_none l held piece before =
+    record { within = omega arith; room = omega arith; long = refl; after = refl; said = nothing 0 before }
 
 -- the bytes from `at` to the next line end, or to the end of the piece
-module _ {s : State} {piece before now held : List ℕ} {l : Ledger} {count at written : ℕ} (f : SoFar s piece before now held l count at written) (end : ℕ)
-    (e : end ≡ next_end piece at) (h : end ≤ length piece) where
+module _ {s : State} {piece before now held : List ℕ} {l : Ledger} {at written : ℕ} (f : SoFar s piece before now held l at written) (end : ℕ)
+    (e : end ≡ next_end piece at) (h : end ≤ length piece) (short : length held ≤ 160) where
   abbrev rest : List ℕ
   rest = drop at piece
 
@@ -92,32 +88,29 @@ module _ {s : State} {piece before now held : List ℕ} {l : Ledger} {count at w
   span = let sum : end ≡ at + (end - at) = omega (arith, f.within) in ap (λ (k : ℕ). take k piece) sum ∙ take-add at (end - at) piece
 
   -- they are held, as far as 160 bytes go, and nothing is said of them
-  state_span : state_after s (take end piece) ≡ state l (take 160 (take count held ++ line))
+  state_span : state_after s (take end piece) ≡ state l (take 160 (held ++ line))
   state_span =
-      let few : take 160 (take count held) ≡ take count held = take_all 160 (take count held) (omega (arith, f.short, f.full, length-take-le count held (omega (arith, f.short, f.full)))) in
+      let few : take 160 held ≡ held = take_all 160 held short in
       ap (state_after s) span ∙
       state_append s (take at piece) line ∙
       ap (λ (t : State). state_after t line) f.after ∙
       ap (λ (t : List ℕ). state_after (state l t) line) (sym few) ∙
-      ap (λ (k : ℕ). state_after (state l (take 160 (take count held))) (take k rest)) index ∙
-      held_state l (take count held) rest ∙
-      ap (λ (k : ℕ). state l (take 160 (take count held ++ take k rest))) (sym index)
+      ap (λ (k : ℕ). state_after (state l (take 160 held)) (take k rest)) index ∙
+      held_state l held rest ∙
+      ap (λ (k : ℕ). state l (take 160 (held ++ take k rest))) (sym index)
 
   said_span : said_by s (take end piece) ≡ said_by s (take at piece)
   said_span =
       ap (said_by s) span ∙
       said_append s (take at piece) line ∙
       ap (λ (t : State). said_by s (take at piece) ++ said_by t line) f.after ∙
-      ap (λ (k : ℕ). said_by s (take at piece) ++ said_by (state l (take count held)) (take k rest)) index ∙
-      ap (λ (t : List ℕ). said_by s (take at piece) ++ t) (held_said l (take count held) rest) ∙
+      ap (λ (k : ℕ). said_by s (take at piece) ++ said_by (state l held) (take k rest)) index ∙
+      ap (λ (t : List ℕ). said_by s (take at piece) ++ t) (held_said l held rest) ∙
       append-nil (said_by s (take at piece))
 
   -- the bytes are kept
-  pub so_far_kept : {more : List ℕ} {total : ℕ} → total ≤ 160 → length more ≡ 160 → take total more ≡ take 160 (take count held ++ line) →
-      SoFar s piece before now more l total end written
-  so_far_kept {more} {total} k m g = record {
-    short = k;
-    full = m;
+  pub so_far_kept : {more : List ℕ} → more ≡ take 160 (held ++ line) → SoFar s piece before now more l end written
+  so_far_kept {more} g = record {
     within = h;
     room = f.room;
     long = f.long;
@@ -136,51 +129,39 @@ module _ {s : State} {piece before now held : List ℕ} {l : Ledger} {count at w
     longer : take (end + 1) piece ≡ take end piece ++ 10 ∷ []
     longer = rw (add-one end, take-suc piece end 0 (omega arith), ended)
 
-    state_line : state_after s (take (end + 1) piece) ≡ state (ledger_after l (take 160 (take count held ++ line))) []
+    state_line : state_after s (take (end + 1) piece) ≡ state (ledger_after l (take 160 (held ++ line))) []
     unfolding state_after
     state_line = ap (state_after s) longer ∙ state_append s (take end piece) (10 ∷ []) ∙ ap (λ (t : State). state_after t (10 ∷ [])) state_span
 
-    said_line : said_by s (take (end + 1) piece) ≡ said_by s (take at piece) ++ said_of l (take 160 (take count held ++ line))
+    said_line : said_by s (take (end + 1) piece) ≡ said_by s (take at piece) ++ said_of l (take 160 (held ++ line))
     unfolding said_by
     said_line =
         ap (said_by s) longer ∙
         said_append s (take end piece) (10 ∷ []) ∙
         ap (λ (t : State). said_by s (take end piece) ++ said_by t (10 ∷ [])) state_span ∙
-        ap (λ (t : List ℕ). t ++ (said_of l (take 160 (take count held ++ line)) ++ [])) said_span ∙
+        ap (λ (t : List ℕ). t ++ (said_of l (take 160 (held ++ line)) ++ [])) said_span ∙
         ap (λ (t : List ℕ). said_by s (take at piece) ++ t) (append-nil _)
 
-    pub so_far_line : {more later : List ℕ} {told : Told} → Tells l (take 160 (take count held ++ line)) written now later told → length later ≡ length now →
-        length more ≡ 160 → told.end ≤ length before → SoFar s piece before later more told.ledger 0 (end + 1) told.end
+    pub so_far_line : {more later : List ℕ} {told : Told} → Tells l (take 160 (held ++ line)) written now later told → length later ≡ length now →
+        more ≡ [] → told.end ≤ length before → SoFar s piece before later more told.ledger (end + 1) told.end
     so_far_line {more} {later} {told} t g m k = record {
-      short = omega arith;
-      full = m;
       within = omega arith;
       room = k;
       long = g ∙ f.long;
-      after = state_line ∙ ap (λ (q : Ledger). state q []) (sym t.next);
+      after = state_line ∙ ap₂ state (sym t.next) (sym m);
       said = rw said_line (also f.said t.said k);
     }
 
 -- where it stops, all of the piece is taken, or too little room is left for another line
-module _ (run : Run) (long : length run.held ≡ 160) (n : ℕ) (e : n ≡ min run.length 160) where
-  pub feeds : {piece before now held : List ℕ} {l : Ledger} {count at written : ℕ} →
-      SoFar (state run.ledger (take n run.held)) piece before now held l count at written → (at < length piece → length before < written + record_most) →
-      Feeds run piece before now (record { run = record { ledger = l; held = held; length = count }; taken = at; written = written })
-  unfolding said_by
-  feeds {piece} {before} {now} {held} {l} {count} {at} {written} f h =
-      let same = held_view run long n e in
-      record {
-        within = f.within;
-        room = f.room;
-        state = sym f.after ∙ ap (λ (s : State). state_after s (take at piece)) same;
-        said = rw same at f.said;
-        stops = h;
-        moves = by at refl;
-      }
-    where
-      by : (k : ℕ) → at ≡ k → record_most ≤ length before → 0 < length piece → 0 < at
-      by zero z r p =
-          let none : length (said_by (state run.ledger (take n run.held)) (take at piece)) ≡ 0 = rw z in
-          let full = h (omega arith) in
-          absurd (omega (arith, f.said.ends))
-      by (suc k) z r p = omega arith
+pub feeds : (run : Run) {piece before now held : List ℕ} {l : Ledger} {at written : ℕ} → SoFar (view run) piece before now held l at written →
+    (at < length piece → length before < written + record_most) → Feeds run piece before now (record { run = record { ledger = l; held = held }; taken = at; written = written })
+unfolding said_by
+feeds run {piece} {before} {now} {held} {l} {at} {written} f h =
+    record { within = f.within; room = f.room; state = sym f.after; said = f.said; stops = h; moves = by at refl }
+  where
+    by : (k : ℕ) → at ≡ k → record_most ≤ length before → 0 < length piece → 0 < at
+    by zero z r p =
+        let none : length (said_by (view run) (take at piece)) ≡ 0 = rw z in
+        let full = h (omega arith) in
+        absurd (omega (arith, f.said.ends))
+    by (suc k) z r p = omega arith

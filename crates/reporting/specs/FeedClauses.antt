@@ -9,9 +9,9 @@ use Rattle.reporting.specs.declared.Fed.{Fed}
 use Rattle.reporting.specs.declared.Finished.{Finished}
 use Rattle.reporting.specs.Run.{ledger_after, said_of, state_after, said_by, end_of, has_refused, closing, State, state}
 
--- the state of a run of the code, which may hold no more than its array has
+-- the state of a run of the code
 abbrev pub view : Run → State
-view run = state run.ledger (take run.length run.held)
+view run = state run.ledger run.held
 
 -- a line is told: the ledger after it, and what is said of it
 pub record Tells (l : Ledger) (line : List ℕ) (at : ℕ) (before after : List ℕ) (r : Told) : Type 0 where

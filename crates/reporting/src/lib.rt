@@ -6,8 +6,9 @@
 #![tactic(auto)]
 
 mod ends;
+mod held;
 
-ghost use Rattle.std.specs.Prelude.{◌≡◌, ◌++◌, ◌+◌, ◌≤◌, min, length, take};
+ghost use Rattle.std.specs.Prelude.{◌≡◌, [], ◌++◌, ◌+◌, ◌≤◌, length, take};
 ghost use Rattle.wording.specs.Puts.{Puts};
 ghost use Rattle.report_lines.specs.Says.{line_most, record_most, Says};
 ghost use Rattle.reporting.specs.Report.{said_for, refused_for, asked_by};
@@ -15,7 +16,8 @@ ghost use Rattle.reporting.specs.Run.{start, ledger, one_more, refused_after, la
 ghost use Rattle.reporting.specs.FeedClauses.{view, Tells, Feeds, Finishes};
 
 use ends::line_end;
-use layout::{Edition, LONGEST, Named};
+use held::Held;
+use layout::{Edition, Named};
 use report_lines::Said;
 
 // What is told of each record.
@@ -48,21 +50,17 @@ pub struct Ledger {
     pub refused: u64,
 }
 
-// How much is held of a line that has not ended: one byte more than any record has tells all.
-pub const HELD: usize = LONGEST + 1;
-
 // A run between two pieces of its input: the ledger, and the line that has not ended yet, as much of it as
 // is held.
-#[derive(Clone, Copy)]
+#[derive(Drop)]
 pub struct Run {
     pub ledger: Ledger,
-    pub held: [u8; HELD],
-    pub length: usize,
+    held: Held,
 }
 
 // What feeding a piece leads to: the run after it, how many bytes of the piece were taken, and how many
 // were written.
-#[derive(Clone, Copy)]
+#[derive(Drop)]
 pub struct Fed {
     pub run: Run,
     pub taken: usize,
@@ -99,8 +97,7 @@ pub fn start(stage: Stage) -> Run
             records: 0,
             refused: 0,
         },
-        held: [0u8; HELD],
-        length: 0,
+        held: Held::new(),
     }
 }
 
@@ -179,34 +176,21 @@ fn take_line(line: &[u8], ledger: Ledger, out: &mut [u8], at: usize) -> Told
     }
 }
 
-// Keeps more of the line that has not ended, as far as they are held, and answers how many are held.
-fn keep(held: &mut [u8], count: usize, bytes: &[u8]) -> usize
-    requires { (count ≤ held_most) × (length held.old ≡ held_most) }
-    ensures { (result ≤ held_most) × (take result held.new ≡ take held_most (take count held.old ++ bytes.now)) }
+// Takes the line that ends after these bytes, of which nothing is held then. A line that lies wholly in the
+// piece is taken as it lies there.
+fn take_ended(held: &mut Held, bytes: &[u8], ledger: Ledger, out: &mut [u8], at: usize) -> Told
+    requires { at + record_most ≤ length out.old }
+    ensures tells { Tells ledger (take held_most (held.old ++ bytes.now)) at out.old out.new result }
+    ensures ended { held.new ≡ [] }
+    ensures short { length held.old ≤ held_most }
 {
-    let n = bytes.len().min(HELD - count);
-    held[count..count + n].copy_from_slice(&bytes[..n]);
-    count + n
-}
-
-// Takes the line that ends after these bytes. One of which nothing is held lies wholly in the piece,
-// and is taken as it lies there.
-fn take_ended(
-    held: &mut [u8],
-    count: usize,
-    bytes: &[u8],
-    ledger: Ledger,
-    out: &mut [u8],
-    at: usize,
-) -> Told
-    requires { ((count ≤ held_most) × (length held.old ≡ held_most)) × (at + record_most ≤ length out.old) }
-    ensures { Tells ledger (take held_most (take count held.old ++ bytes.now)) at out.old out.new result }
-{
-    if count == 0 {
+    if held.is_empty() {
         return take_line(bytes, ledger, out, at);
     }
-    let n = keep(held, count, bytes);
-    take_line(&held[..n], ledger, out, at)
+    held.hold(bytes);
+    let told = take_line(held.as_slice(), ledger, out, at);
+    held.clear();
+    told
 }
 
 // Puts what is said last, by the stage.
@@ -239,9 +223,10 @@ fn has_refused(ledger: Ledger) -> bool
 pub fn feed(run: Run, piece: &[u8], out: &mut [u8]) -> Fed
     ensures { Feeds run piece.now out.old out.new result }
 {
-    let mut held = run.held;
-    let mut ledger = run.ledger;
-    let mut count = run.length.min(HELD);
+    let Run {
+        mut ledger,
+        mut held,
+    } = run;
     let mut at = 0;
     let mut written = 0;
     while at < piece.len() {
@@ -250,23 +235,18 @@ pub fn feed(run: Run, piece: &[u8], out: &mut [u8]) -> Fed
         }
         let end = line_end(piece, at);
         if end == piece.len() {
-            count = keep(&mut held, count, &piece[at..end]);
+            held.hold(&piece[at..end]);
             at = end;
         } else {
             let next = end + 1;
-            let told = take_ended(&mut held, count, &piece[at..end], ledger, out, written);
+            let told = take_ended(&mut held, &piece[at..end], ledger, out, written);
             ledger = told.ledger;
             written = told.end;
-            count = 0;
             at = next;
         }
     }
     Fed {
-        run: Run {
-            ledger,
-            held,
-            length: count,
-        },
+        run: Run { ledger, held },
         taken: at,
         written,
     }
@@ -283,16 +263,13 @@ pub fn finish(run: Run, out: &mut [u8]) -> Finished
             refused: true,
         };
     }
-    let held = run.held;
-    let ledger = run.ledger;
-    let count = run.length.min(HELD);
-    if count == 0 {
+    if run.held.is_empty() {
         return Finished {
-            written: put_last(ledger, out, 0),
-            refused: has_refused(ledger),
+            written: put_last(run.ledger, out, 0),
+            refused: has_refused(run.ledger),
         };
     }
-    let told = take_line(&held[..count], ledger, out, 0);
+    let told = take_line(run.held.as_slice(), run.ledger, out, 0);
     let last = told.ledger;
     Finished {
         written: put_last(last, out, told.end),

@@ -1,8 +1,12 @@
 -- `reporting::take_ended` meets its contract. Assumes nothing.
 use Rattle.reporting.proofs.TellLaws.{cut_tells}
+use mathlib.Core.Path.{◌≡◌}
+use mathlib.Core.List.{[]}
+use borrow.Author.Rules.{rules}
 use Rattle.reporting.proofs.take_ended.Goals as goal
 
-pub returns-then-count-eq0 : goal.returns-then-count-eq0
-returns-then-count-eq0 c =
+pub returns-then-is_empty-clause-tells : goal.returns-then-is_empty-clause-tells
+returns-then-is_empty-clause-tells c =
     let a = c.args in
-    rw c.if-count-eq0.true (cut_tells a.ledger a.bytes.now c.take_line.ensures)
+    let none : a.held.now ≡ [] = search rules in
+    rw none (cut_tells a.ledger a.bytes.now c.take_line.ensures)

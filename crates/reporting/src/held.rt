@@ -1,0 +1,70 @@
+// The line that has not ended yet, as much of it as is held.
+ghost use Rattle.std.specs.Prelude.{◌≡◌, ◌↔◌, ◌++◌, ◌≤◌, List, ℕ, [], length, take, IsTrue};
+ghost use Rattle.reporting.specs.Run.{held_most};
+
+use layout::LONGEST;
+use std::marker::Model;
+
+// How much is held of a line: one byte more than any record has tells all.
+const MOST: usize = LONGEST + 1;
+
+// The bytes that are held, and how many they are.
+#[derive(Drop)]
+pub struct Held {
+    bytes: [u8; MOST],
+    length: usize,
+}
+
+// Clauses see the bytes that are held.
+impl Model for Held {
+    ghost Value = { List ℕ };
+
+    ghost view = { λ h. take h.length h.bytes };
+
+    ghost invariant = { λ h. h.length ≤ held_most };
+}
+
+impl Held {
+    // Nothing is held.
+    pub fn new() -> Held
+        ensures { result ≡ [] }
+    {
+        Held {
+            bytes: [0; MOST],
+            length: 0,
+        }
+    }
+
+    // Is nothing held?
+    pub fn is_empty(&self) -> bool
+        ensures nothing { IsTrue result ↔ (self.now ≡ []) }
+        ensures short { length self.now ≤ held_most }
+    {
+        self.length == 0
+    }
+
+    // What is held.
+    pub fn as_slice(&self) -> &[u8]
+        ensures { result.now ≡ self.now }
+    {
+        &self.bytes[..self.length]
+    }
+
+    // Holds more of the line, as far as a line is held.
+    pub fn hold(&mut self, more: &[u8])
+        ensures held { self.new ≡ take held_most (self.old ++ more.now) }
+        ensures short { length self.old ≤ held_most }
+    {
+        let n = more.len().min(MOST - self.length);
+        let end = self.length + n;
+        self.bytes[self.length..end].copy_from_slice(&more[..n]);
+        self.length = end;
+    }
+
+    // Holds nothing any more: the line has ended.
+    pub fn clear(&mut self)
+        ensures { self.new ≡ [] }
+    {
+        self.length = 0;
+    }
+}

@@ -13,9 +13,8 @@ use Rattle.layout.specs.declared.Edition.{Edition}
 use Rattle.layout.specs.declared.Edition.TheVariants.{One, Three, Four}
 use Rattle.layout.specs.Page.{element, page, legal_texts}
 use Rattle.signs.specs.Signed.{signed, same_signed}
-use Rattle.places.specs.declared.Place.{Place}
 use Rattle.places.specs.Places.{south, west, place_at}
-use Rattle.places.specs.Column12.{one_place, same_place, keeps_tie, may_stand, is_first, crosses, suits, lowest_digit}
+use Rattle.places.specs.Column12.{same_place, keeps_tie, may_stand, is_first, crosses, suits, lowest_digit}
 
 -- which digits may stand in column 12: octants in edition 1, quadrants in the others
 abbrev pub is_digit_of : Edition → ℕ → Bool
@@ -39,9 +38,6 @@ digit_stands ed digit h =
 pub stands_at : {a b : Edition} (digit : ℕ) → a ≡ b → may_stand b digit ≡ may_stand a digit
 stands_at digit e = sym (ap (λ (ed : Edition). may_stand ed digit) e)
 
-pub tie_at : {a b : Edition} (digit longitude : ℕ) → a ≡ b → keeps_tie b digit longitude ≡ keeps_tie a digit longitude
-tie_at digit longitude e = sym (ap (λ (ed : Edition). keeps_tie ed digit longitude) e)
-
 -- off the equator north and south are two
 pub off_equator : (a b : Bool) (n : ℕ) → (n ≡ 0 → ⊥) → beq a b ≡ same_signed (signed a n) (signed b n)
 off_equator a b zero h = absurd (h refl)
@@ -49,11 +45,6 @@ off_equator true true (suc n) h = sym (eq-eqb n n refl)
 off_equator true false (suc n) h = refl
 off_equator false true (suc n) h = refl
 off_equator false false (suc n) h = sym (eq-eqb (suc n) (suc n) refl)
-
--- the place that each of two digits gives
-pub of_digits : (from : Edition) (d : ℕ) (to : Edition) (c latitude longitude : ℕ) (p q : Place) → p ≡ place_at from d latitude longitude → q ≡ place_at to c latitude longitude →
-    one_place p q ≡ same_place from d to c latitude longitude
-of_digits from d to c latitude longitude p q e f = rw (e, f)
 
 -- a digit that may not stand, one that gives another place, and one that gives the same
 module _ (from to : Edition) (d latitude longitude c : ℕ) (x : Bool) (e : x ≡ may_stand to c) where
@@ -69,9 +60,6 @@ module _ (from to : Edition) (d latitude longitude c : ℕ) (x : Bool) (e : x �
     pub same_and : y ≡ true → (z : Bool) → z ≡ keeps_tie to c longitude → z ≡ suits from to d latitude longitude c
     unfolding suits
     same_and k z g = rw (← e, h, ← f, k, ← g)
-
-pub crossing : (from to : Edition) (x y z : Bool) → x ≡ is_first from → y ≡ is_first to → z ≡ beq x y → not z ≡ crosses from to
-crossing from to x y z e f g = rw (g, e, f)
 
 -- what crosses one way crosses back
 pub crosses_back : (from to : Edition) → crosses to from ≡ crosses from to

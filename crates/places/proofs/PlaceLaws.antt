@@ -1,46 +1,14 @@
 -- What each way through the code of places says of the definitions, and that the figures of a place are those that gave it. Assumes nothing.
-use mathlib.Core.Path.{◌≡◌, refl, sym, ap, ◌∙◌}
-use mathlib.Core.Bool.{Bool, true, false, not, true≢false}
-use Prim.Native.Nat.{ℕ, zero, suc, ◌-◌, ◌%◌, ◌<◌, ◌≤◌}
+use mathlib.Core.Path.{◌≡◌, refl, ap, ◌∙◌}
+use mathlib.Core.Bool.{Bool, true, false}
+use Prim.Native.Nat.{ℕ, zero, suc, ◌-◌, ◌≤◌}
 use native.Mathlib.Nat.{mod-eq_of_lt}
 use native.Mathlib.Omega.{arith}
-use borrow.Author.Tests.{ne_eqb}
 use lib.IntN.{ℤ}
 use Rattle.layout.specs.declared.Edition.{Edition}
-use Rattle.layout.specs.declared.Edition.TheVariants.{One, Three, Four}
 use Rattle.signs.specs.Signed.{signed}
 use Rattle.signs.proofs.Signs.{distance}
 use Rattle.places.specs.Places.{south, west, hundredths, tenths, circle, east, place_at, latitude_figure, longitude_figure}
-
--- a digit past 9 gives no western hemisphere
-pub west_far : (ed : Edition) (d : ℕ) → 9 < d → false ≡ west ed d
-unfolding west
-west_far One d h = rw (ne_eqb d 0 (λ e. omega arith), ne_eqb d 1 (λ e. omega arith), ne_eqb d 5 (λ e. omega arith), ne_eqb d 6 (λ e. omega arith))
-west_far Three d h = rw (ne_eqb d 5 (λ e. omega arith), ne_eqb d 7 (λ e. omega arith))
-west_far Four d h = rw (ne_eqb d 5 (λ e. omega arith), ne_eqb d 7 (λ e. omega arith))
-
--- east longitude
-module _ (w : Bool) (l m : ℕ) where
-  pub east_east : not w ≡ true → m ≡ l → m ≡ east w l
-  east_east h f = by w h
-    where
-      by : (w : Bool) → not w ≡ true → m ≡ east w l
-      by false h = f
-      by true h = absurd (true≢false (sym h))
-
-  pub east_far : not w ≡ false → circle ≤ l → 0 ≡ east w l
-  east_far h k = by w h
-    where
-      by : (w : Bool) → not w ≡ false → 0 ≡ east w l
-      by true h = let z : circle - l ≡ 0 = omega arith in rw z
-      by false h = absurd (true≢false h)
-
-  pub east_west : not w ≡ false → m ≡ (circle - l) % circle → m ≡ east w l
-  east_west h f = by w h
-    where
-      by : (w : Bool) → not w ≡ false → m ≡ east w l
-      by true h = f
-      by false h = absurd (true≢false h)
 
 -- turned twice a longitude is what it was
 turned_back : (w : Bool) (l : ℕ) → l ≤ hundredths 1800 → east w (east w l) ≡ l

@@ -20,10 +20,6 @@ use Rattle.places.specs.Plain.{Plain, digit_in}
 use Rattle.places.proofs.DigitLaws.{off_equator}
 use Rattle.places.proofs.Gives.{both}
 
--- the edition that an arm was taken at
-pub table_at : {a b : Edition} (far isSouth isWest : Bool) → a ≡ b → digit_in b far isSouth isWest ≡ digit_in a far isSouth isWest
-table_at far isSouth isWest e = sym (ap (λ (ed : Edition). digit_in ed far isSouth isWest) e)
-
 -- what tie 2 asks, by the side of 90 degrees
 sides : Edition → Bool → ℕ → Bool
 sides One far digit = cond (among 0 3 5 8 digit) (not far) far

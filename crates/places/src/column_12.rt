@@ -5,8 +5,24 @@ ghost use Rattle.std.specs.Prelude.{true, ◌≡◌, ◌≤◌, ◌-◌};
 ghost use Rattle.places.specs.Column12.{one_place, same_place, keeps_tie, may_stand, suits, lowest_digit, is_first, crosses};
 ghost use Rattle.places.specs.Plain.{Plain, quadrant_of, near_octant, far_octant, octant_of, digit_in};
 
-use crate::{Place, is_south, is_west, octant_fits, place_at};
+use crate::{Figures, Place, is_south, is_west, octant_fits, place_at};
 use layout::Edition;
+
+// The way of a record from one edition to another.
+#[derive(Clone, Copy, PartialEq, Eq)]
+pub struct Way {
+    pub from: Edition,
+    pub to: Edition,
+}
+
+impl Way {
+    // Is one of the two edition 1 and the other not?
+    pub fn is_crossing(self) -> bool
+        ensures { result ≡ crosses self.from self.to }
+    {
+        (self.from == Edition::One) != (self.to == Edition::One)
+    }
+}
 
 // May the digit stand in column 12 of the edition?
 fn may_stand(edition: Edition, digit: u32) -> bool
@@ -15,8 +31,7 @@ fn may_stand(edition: Edition, digit: u32) -> bool
 {
     match edition {
         Edition::One => text::is_either(digit, 0, 3, 5, 8),
-        Edition::Three => text::is_among(digit, 1, 3, 5, 7),
-        Edition::Four => text::is_among(digit, 1, 3, 5, 7),
+        Edition::Three | Edition::Four => text::is_among(digit, 1, 3, 5, 7),
     }
 }
 
@@ -24,16 +39,18 @@ fn may_stand(edition: Edition, digit: u32) -> bool
 fn is_one_place(a: Place, b: Place) -> bool
     ensures { result ≡ one_place a b }
 {
-    signs::is_same(a.latitude, b.latitude) && a.longitude == b.longitude
+    a.latitude == b.latitude && a.longitude == b.longitude
 }
 
-// Do two digits, each in its edition, give the same place?
-fn is_same_place(from: Edition, d: u32, to: Edition, c: u32, latitude: u32, longitude: u32) -> bool
-    ensures { result ≡ same_place from d to c latitude longitude }
+// Does digit c of the edition gone to give the place that the figures give?
+fn is_same_place(way: Way, figures: Figures, c: u32) -> bool
+    ensures { result ≡ same_place way.from figures.digit way.to c figures.latitude figures.longitude }
 {
-    let a = place_at(from, d, latitude, longitude);
-    let b = place_at(to, c, latitude, longitude);
-    is_one_place(a, b)
+    let other = Figures {
+        digit: c,
+        ..figures
+    };
+    is_one_place(place_at(way.from, figures), place_at(way.to, other))
 }
 
 // Does the digit keep tie 2?
@@ -42,59 +59,38 @@ fn keeps_tie(edition: Edition, digit: u32, longitude: u32) -> bool
 {
     match edition {
         Edition::One => octant_fits(digit, longitude),
-        Edition::Three => true,
-        Edition::Four => true,
+        Edition::Three | Edition::Four => true,
     }
 }
 
-// May digit c stand in column 12 for digit d?
-fn is_suited(from: Edition, to: Edition, d: u32, latitude: u32, longitude: u32, c: u32) -> bool
+// May digit c stand in column 12 for the digit of the figures?
+fn is_suited(way: Way, figures: Figures, c: u32) -> bool
     requires { c ≤ 9 }
-    ensures { result ≡ suits from to d latitude longitude c }
+    ensures { result ≡ suits way.from way.to figures.digit figures.latitude figures.longitude c }
 {
-    if !may_stand(to, c) {
-        return false;
-    }
-    is_same_place(from, d, to, c, latitude, longitude) && keeps_tie(to, c, longitude)
+    may_stand(way.to, c)
+        && is_same_place(way, figures, c)
+        && keeps_tie(way.to, c, figures.longitude)
 }
 
-// The lowest digit of the edition `to` that gives the place of digit d and keeps tie 2, found by trying
-// one after the other. There is one for every place, so where no other will do it is the last.
-fn first_digit(from: Edition, to: Edition, d: u32, latitude: u32, longitude: u32) -> u8
-    ensures { result ≡ lowest_digit from to d latitude longitude }
+// The lowest digit of the edition gone to that gives the same place and keeps tie 2, found by trying one
+// after the other. There is one for every place, so where no other will do it is the last.
+fn first_digit(way: Way, figures: Figures) -> u8
+    ensures { result ≡ lowest_digit way.from way.to figures.digit figures.latitude figures.longitude }
 {
-    let mut b = 48;
-    while b < 57 {
-        if is_suited(from, to, d, latitude, longitude, digit_of(b)) {
+    for b in b'0'..b'9' {
+        if is_suited(way, figures, u32::from(b - b'0')) {
             return b;
         }
-        b += 1;
     }
-    b
-}
-
-// The number that a character '0' to '9' says.
-fn digit_of(b: u8) -> u32
-    requires { 48 ≤ b }
-    ensures { result ≡ b - 48 }
-{
-    (b - 48) as u32
+    b'9'
 }
 
 // Is the place off the equator and off the meridians of 0, 90 and 180 degrees?
 fn is_plain(latitude: u32, longitude: u32) -> bool
     ensures { result ≡ true → Plain latitude longitude }
 {
-    if latitude == 0 {
-        return false;
-    }
-    if longitude == 0 {
-        return false;
-    }
-    if longitude == 900 {
-        return false;
-    }
-    longitude < 1800
+    latitude != 0 && longitude != 0 && longitude != 900 && longitude < 1800
 }
 
 // The quadrant of two hemispheres.
@@ -112,9 +108,10 @@ fn octant_of(far: bool, south: bool, west: bool) -> u8
     ensures { result ≡ octant_of far south west }
 {
     if far {
-        return far_octant(south, west);
+        far_octant(south, west)
+    } else {
+        near_octant(south, west)
     }
-    near_octant(south, west)
 }
 
 // The octant of two hemispheres up to 90 degrees.
@@ -143,36 +140,30 @@ fn plain_digit(to: Edition, far: bool, south: bool, west: bool) -> u8
 {
     match to {
         Edition::One => octant_of(far, south, west),
-        Edition::Three => quadrant_of(south, west),
-        Edition::Four => quadrant_of(south, west),
+        Edition::Three | Edition::Four => quadrant_of(south, west),
     }
 }
 
-// The lowest digit of the edition `to` that gives the place of digit d and keeps tie 2, as a character.
-// A plain place has just one, which stands in a table.
-pub fn lowest_digit(from: Edition, to: Edition, d: u32, latitude: u32, longitude: u32) -> u8
-    ensures { result ≡ lowest_digit from to d latitude longitude }
+// The lowest digit of the edition gone to that gives the same place and keeps tie 2, as a character. A
+// plain place has just one, which stands in a table.
+pub fn lowest_digit(way: Way, figures: Figures) -> u8
+    ensures { result ≡ lowest_digit way.from way.to figures.digit figures.latitude figures.longitude }
 {
-    if !is_plain(latitude, longitude) {
-        return first_digit(from, to, d, latitude, longitude);
+    if !is_plain(figures.latitude, figures.longitude) {
+        return first_digit(way, figures);
     }
-    plain_digit(to, 900 < longitude, is_south(from, d), is_west(from, d))
+    let digit = u64::from(figures.digit);
+    plain_digit(
+        way.to,
+        900 < figures.longitude,
+        is_south(way.from, digit),
+        is_west(way.from, digit),
+    )
 }
 
 // Is it edition 1?
 pub fn is_first(edition: Edition) -> bool
     ensures { result ≡ is_first edition }
 {
-    match edition {
-        Edition::One => true,
-        Edition::Three => false,
-        Edition::Four => false,
-    }
-}
-
-// Is one of the two edition 1 and the other not?
-pub fn is_crossing(from: Edition, to: Edition) -> bool
-    ensures { result ≡ crosses from to }
-{
-    !text::same(is_first(from), is_first(to))
+    edition == Edition::One
 }

@@ -21,36 +21,35 @@ pub struct Place {
     pub digit: u64,
 }
 
+// What stands in the columns of a place, as numbers: the digit of column 12, and the figures of latitude
+// and longitude.
+#[derive(Clone, Copy, PartialEq, Eq)]
+pub struct Figures {
+    pub digit: u32,
+    pub latitude: u32,
+    pub longitude: u32,
+}
+
 // Does the digit give the southern hemisphere?
-fn is_south(edition: Edition, digit: u32) -> bool
+#[tactic(auto, unfolding(crate::specs::Places::south))]
+fn is_south(edition: Edition, digit: u64) -> bool
     ensures { result ≡ south edition digit }
 {
     match edition {
         Edition::One => 5 <= digit,
-        Edition::Three => text::is_among(digit, 3, 5, 3, 5),
-        Edition::Four => text::is_among(digit, 3, 5, 3, 5),
+        Edition::Three | Edition::Four => matches!(digit, 3 | 5),
     }
 }
 
-// Does it give the western?
-fn is_west(edition: Edition, digit: u32) -> bool
+// Does it give the western? That of a given place may be any number.
+#[tactic(auto, unfolding(crate::specs::Places::west))]
+fn is_west(edition: Edition, digit: u64) -> bool
     ensures { result ≡ west edition digit }
 {
     match edition {
-        Edition::One => text::is_among(digit, 0, 1, 5, 6),
-        Edition::Three => text::is_among(digit, 5, 7, 5, 7),
-        Edition::Four => text::is_among(digit, 5, 7, 5, 7),
+        Edition::One => matches!(digit, 0 | 1 | 5 | 6),
+        Edition::Three | Edition::Four => matches!(digit, 5 | 7),
     }
-}
-
-// The same of a digit of a place, which may be any number.
-fn gives_west(edition: Edition, digit: u64) -> bool
-    ensures { result ≡ west edition digit }
-{
-    if 9 < digit {
-        return false;
-    }
-    is_west(edition, digit as u32)
 }
 
 // Does the longitude lie in the octant's range?
@@ -75,7 +74,7 @@ fn hundredths_of(tenths: u32) -> u64
     ensures value { result ≡ hundredths tenths }
     ensures upper_bound { result < 2 ^ 63 }
 {
-    text::wide(tenths) * UNIT
+    u64::from(tenths) * UNIT
 }
 
 // The whole tenths in so many hundredths.
@@ -89,23 +88,22 @@ fn tenths_of(hundredths: u64) -> u64
 fn east_of(is_west: bool, longitude: u64) -> u64
     ensures { result ≡ east is_west longitude }
 {
-    if !is_west {
-        return longitude;
+    if is_west {
+        CIRCLE.saturating_sub(longitude) % CIRCLE
+    } else {
+        longitude
     }
-    if CIRCLE <= longitude {
-        return 0;
-    }
-    (CIRCLE - longitude) % CIRCLE
 }
 
-// The place that a digit and the figures of latitude and longitude give.
-pub fn place_at(edition: Edition, digit: u32, latitude: u32, longitude: u32) -> Place
-    ensures { result ≡ place_at edition digit latitude longitude }
+// The place that figures of an edition give.
+pub fn place_at(edition: Edition, figures: Figures) -> Place
+    ensures { result ≡ place_at edition figures.digit figures.latitude figures.longitude }
 {
+    let digit = u64::from(figures.digit);
     Place {
-        latitude: signs::signed_of(is_south(edition, digit), hundredths_of(latitude)),
-        longitude: east_of(is_west(edition, digit), hundredths_of(longitude)),
-        digit: text::wide(digit),
+        latitude: signs::signed_of(is_south(edition, digit), hundredths_of(figures.latitude)),
+        longitude: east_of(is_west(edition, digit), hundredths_of(figures.longitude)),
+        digit,
     }
 }
 
@@ -113,12 +111,12 @@ pub fn place_at(edition: Edition, digit: u32, latitude: u32, longitude: u32) -> 
 pub fn latitude_figure(place: Place) -> u64
     ensures { result ≡ latitude_figure place }
 {
-    tenths_of(signs::magnitude(place.latitude))
+    tenths_of(place.latitude.unsigned_abs())
 }
 
 // The figure of longitude, by the hemisphere that the place's digit gives.
 pub fn longitude_figure(edition: Edition, place: Place) -> u64
     ensures { result ≡ longitude_figure edition place }
 {
-    tenths_of(east_of(gives_west(edition, place.digit), place.longitude))
+    tenths_of(east_of(is_west(edition, place.digit), place.longitude))
 }

@@ -8,4 +8,4 @@ use Rattle.places.proofs.latitude_figure.Goals as goal
 pub returns : goal.returns
 unfolding latitude_figure
 returns c =
-    c.tenths_of.ensures ∙ ap tenths (c.magnitude.ensures.value ∙ ap nat_abs (itself c.args.place.latitude (record { sfits = c.struct_told-1.given.0.1 })))
+    c.tenths_of.ensures ∙ ap tenths (c.unsigned_abs.ensures.value ∙ ap nat_abs (itself c.args.place.latitude (record { sfits = c.struct_told-1.given.0.1 })))

@@ -6,5 +6,4 @@ use Rattle.places.proofs.longitude_figure.Goals as goal
 
 pub returns : goal.returns
 unfolding longitude_figure
-returns c =
-    c.tenths_of.ensures ∙ ap tenths (c.east_of.ensures ∙ ap (λ (b : Bool). east b c.args.place.longitude) c.gives_west.ensures)
+returns c = c.tenths_of.ensures ∙ ap tenths (c.east_of.ensures ∙ ap (λ (b : Bool). east b c.args.place.longitude) c.is_west.ensures)

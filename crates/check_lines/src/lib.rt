@@ -1,31 +1,28 @@
-// What check_report says of a record, put into a lent buffer.
+// What check_report says of a record, put on a sheet.
 #![tactic(auto)]
 
-ghost use Rattle.std.specs.Prelude.{◌+◌, ◌≤◌, length};
+ghost use Rattle.wording.specs.Puts.{HasRoom};
 ghost use Rattle.report_lines.specs.Says.{record_most, Says};
 ghost use Rattle.check_lines.specs.Sentences.{check_said, check_refused};
 
-use checking::Answer;
-use report_lines::Said;
+use wording::Sheet;
 
-// Says of a record what the check answers.
-pub fn tell(line: &[u8], count: u64, out: &mut [u8], at: usize) -> Said
-    requires { at + record_most ≤ length out.old }
-    ensures { Says (check_said count line.now) (check_refused line.now) at out.old out.new result }
+// Says of a record what the check answers. Is it refused?
+pub fn tell(sheet: &mut Sheet<'_>, count: u64, line: &[u8]) -> bool
+    requires { HasRoom record_most sheet.old }
+    ensures { Says (check_said count line.now) (check_refused line.now) sheet.old sheet.new result }
 {
     let answer = checking::check(line);
     match answer {
-        Answer::Accepted(edition) => {
+        Ok(edition) => {
             let sign = checking::call_sign_after(answer, line);
-            let after = report_lines::put_accepted(out, at, count, edition);
-            Said {
-                end: report_lines::put_call_sign(out, after, count, sign),
-                refused: false,
-            }
+            report_lines::put_accepted(sheet, count, edition);
+            report_lines::put_call_sign(sheet, count, sign);
+            false
         }
-        Answer::Refused(refusal) => Said {
-            end: report_lines::put_refused(out, at, count, refusal),
-            refused: true,
-        },
+        Err(refusal) => {
+            report_lines::put_refused(sheet, count, refusal);
+            true
+        }
     }
 }

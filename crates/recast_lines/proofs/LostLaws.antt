@@ -11,7 +11,9 @@ use lib.Bits.{bit_and}
 use lib.Count.{count_trailing_zeros}
 use Rattle.text.specs.Bytes.{bytes_of}
 use Rattle.wording.specs.Wording.{decimal, numbered}
-use Rattle.wording.specs.Puts.{Puts}
+use Rattle.wording.specs.declared.sheet.Sheet.{Sheet}
+use Rattle.wording.specs.Puts.{HasRoom, Adds}
+use Rattle.wording.proofs.PutLaws.{within}
 use Rattle.wording.proofs.WordingLaws.{small_number}
 use Rattle.element_sets.specs.declared.ElementSet.{ElementSet}
 use Rattle.element_sets.specs.Loops.{elements_in}
@@ -60,11 +62,11 @@ module _ (first w : ℕ) where
         ap₂ (λ (x y : ℕ). numbers (elements_in first x y)) (sym e) (sym (mod-eq_of_lt below)) ∙ ap numbers (elements_within first n m w) in
         omega (arith, ap length few, numbers_short first n w (omega arith))
 
-    pub told_room : (at long : ℕ) → at + (4 * n + 20) ≤ long → (at + length (told first w) + 20 ≤ long) × (first ≤ 65)
-    told_room at long h = (omega (arith, told_short), low)
+    pub told_room : (s : Sheet) → HasRoom (4 * n + 20) s → HasRoom (length (told first w) + 20) s × (first ≤ 65)
+    told_room s h = (omega (arith, told_short), low)
 
-    pub told_end : {at end : ℕ} {before after : List ℕ} → Puts (told first w) at before after end → end ≤ at + 4 * n
-    told_end {at} {end} p = omega (arith, told_short, p.ends)
+    pub told_within : {before after : Sheet} → Adds (told first w) (length (told first w)) before after → Adds (told first w) (4 * n) before after
+    told_within p = within told_short p
 
 -- the elements of a set: those of its first word, and then those of the 37 bits of its second that are elements'
 pub lost_by_words : (s : ElementSet) → lost s ≡ told 1 s.low ++ told 65 (s.high % 2 ^ 37)

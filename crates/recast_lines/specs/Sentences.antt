@@ -1,15 +1,11 @@
 -- The lines that the recast report alone has, in words, and what it says of a record. Assumes nothing.
-use Rattle.std.specs.Prelude.{ℕ, Bool, List, [], ◌∷◌, ◌++◌}
+use Rattle.std.specs.Prelude.{ℕ, Bool, List, [], ◌∷◌, ◌++◌, Ok, Err, is_err}
 use Rattle.text.specs.Bytes.{bytes_of}
 use Rattle.layout.specs.declared.Edition.{Edition}
 use Rattle.layout.specs.Editions.{edition_number, last_element, longest_record}
 use Rattle.element_sets.specs.declared.ElementSet.{ElementSet}
 use Rattle.element_sets.specs.ElementSets.{passing, count_of, has_element}
-use Rattle.recasting.specs.declared.Outcome.{Outcome}
-use Rattle.refusals.specs.declared.Verdict.{Verdict}
-use Rattle.refusals.specs.declared.Verdict.TheVariants.{Fine, Refused}
-use Rattle.refusals.specs.Verdicts.{is_refused}
-use Rattle.recasting.specs.Recast.{recast_of, outcome_in}
+use Rattle.recasting.specs.Recast.{Outcome, recast_of, outcome_in}
 use Rattle.wording.specs.Wording.{decimal, numbered, line_end}
 use Rattle.report_lines.specs.Sentences.{refused_line}
 
@@ -30,13 +26,14 @@ numbers (n ∷ ns) = numbered (bytes_of " ") n ++ numbers ns
 abbrev pub lost : ElementSet → List ℕ
 lost l = numbers (passing (has_element l) 1 last_element)
 
--- the line of a record: its count, then 'ok', how many elements are lost and which; or 'refused', number and place
-unfoldable pub line_of : ℕ → Verdict → ElementSet → List ℕ
-line_of n Fine l = decimal n ++ numbered (bytes_of " ok ") (count_of l) ++ lost l ++ line_end
-line_of n (Refused r) l = refused_line n r
+-- the line of a record that is recast: its count, then 'ok', how many elements are lost and which
+unfoldable pub line_of : ℕ → ElementSet → List ℕ
+line_of n l = decimal n ++ numbered (bytes_of " ok ") (count_of l) ++ lost l ++ line_end
 
+-- the line of a record by its outcome; of a refused one its count, 'refused', number and place
 abbrev pub recast_line : ℕ → Outcome → List ℕ
-recast_line n o = line_of n o.verdict o.losses
+recast_line n (Ok l) = line_of n l
+recast_line n (Err r) = refused_line n r
 
 -- the outcome of a record, with room for any; and what is said of it, and whether it is refused
 abbrev pub outcome_for : Edition → List ℕ → Outcome
@@ -46,4 +43,4 @@ abbrev pub recast_said : Edition → ℕ → List ℕ → List ℕ
 recast_said edition n line = recast_line n (outcome_for edition line)
 
 abbrev pub recast_refused : Edition → List ℕ → Bool
-recast_refused edition line = is_refused (outcome_for edition line).verdict
+recast_refused edition line = is_err (outcome_for edition line)

@@ -1,10 +1,9 @@
-use Prim.Native.Nat.{◌≤◌}
 use Rattle.recast_lines.proofs.LostLaws.{told}
 use Rattle.wording.proofs.PutLaws.{Left}
 use Rattle.recast_lines.proofs.put_word.Given as goal
 
 abbrev pub invariant-loop-left : goal.invariant-loop-left
-invariant-loop-left l = (l.left ≤ l.word) × Left (told l.first l.word) l.at l.initial.out (told l.first l.left) l.end l.out
+invariant-loop-left l = Left (told l.first l.word) l.initial.sheet (told l.first l.left) l.sheet
 
 abbrev pub decreases-loop-left : goal.decreases-loop-left
 decreases-loop-left l = l.left

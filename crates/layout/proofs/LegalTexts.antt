@@ -45,11 +45,7 @@ module _ (ed : Edition) (e : ℕ) (r : LegalTexts) where
   unfolding page
   later_flags l h g = run 94 8 later_flag refl l h g
 
--- where there is no element there is nothing to write
-pub before_first : (ed : Edition) (e : ℕ) → e < 1 → Nothing ≡ legal_texts ed e
-unfolding element
-before_first ed e h = let is : e ≡ 0 = omega arith in rw is (in_all ed Nothing)
-
+-- past the last element there is nothing to write
 pub past_last : (ed : Edition) (e : ℕ) → 102 ≤ e → Nothing ≡ legal_texts ed e
 unfolding element page
 past_last ed e h = rw (get_or-eq_default elements none h) (in_all ed Nothing)

@@ -1,6 +1,5 @@
 -- The laws of the page that the functions of this crate and of those above it cite.
 pub mod Columns
-pub mod Rows
 pub mod LegalTexts
 pub mod Elements
 pub mod PartLaws
@@ -12,3 +11,4 @@ pub mod Alike
 pub mod Lacking
 pub mod Holding
 pub mod Finds
+pub mod Table

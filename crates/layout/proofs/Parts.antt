@@ -1,29 +1,14 @@
--- The columns of a record that a loop or a tie takes out: past its end, up to its end, and within it. Assumes nothing.
-use mathlib.Core.Path.{◌≡◌, sym, ap, ◌∙◌}
+-- The columns of an element that a loop or a tie takes out of a record. Assumes nothing.
+use mathlib.Core.Path.{◌≡◌, ap, ◌∙◌}
 use mathlib.Core.List.{List, [], ◌∷◌}
-use Prim.Native.Nat.{ℕ, ◌+◌, ◌-◌, ◌<◌, ◌≤◌}
-use native.Mathlib.Nat.{add-sub_cancel_left, min-le_left}
+use Prim.Native.Nat.{ℕ, ◌+◌, ◌<◌, ◌≤◌}
+use native.Mathlib.Nat.{min-le_left}
 use native.Mathlib.Omega.{arith}
-use lib.ListN.{length, get_or, take, drop, drop_of_length-le, length-take, length-drop}
-use lib.Seq.{take_all, get_or-take, get_or-drop}
+use lib.ListN.{length, get_or, take, drop, length-take}
+use lib.Seq.{get_or-take, get_or-drop}
 use Rattle.text.proofs.Parts.{one_column}
 use Rattle.layout.specs.Page.{start_of, width_of, text_of, first_byte}
-use Rattle.layout.proofs.Beyond.{take_none}
 use Rattle.layout.proofs.Columns.{narrow}
-
-module _ (xs : List ℕ) (start width : ℕ) where
-  pub past : length xs ≤ start → [] ≡ take width (drop start xs)
-  past h = rw (drop_of_length-le xs h) (take_none width)
-
-  pub to_the_end : length xs - start ≤ width → take (length xs - start) (drop start xs) ≡ take width (drop start xs)
-  to_the_end h = take_all (length xs - start) (drop start xs) (rw length-drop (omega arith)) ∙ sym (take_all width (drop start xs) (rw length-drop h))
-
-  pub inside : take (start + width - start) (drop start xs) ≡ take width (drop start xs)
-  inside = rw (add-sub_cancel_left start width)
-
--- what was taken is no more than the width
-pub at_most : (xs ts : List ℕ) (start width : ℕ) → ts ≡ take width (drop start xs) → length ts ≤ width
-at_most xs ts start width e = rw (e, length-take) (min-le_left width (length (drop start xs)))
 
 -- columns that start where element e does and are as many are its own
 pub own_columns : (xs ts : List ℕ) (e start d : ℕ) → start ≡ start_of e → d ≡ width_of e → ts ≡ take d (drop start xs) → ts ≡ text_of e xs

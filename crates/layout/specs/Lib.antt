@@ -1,4 +1,3 @@
 pub mod Editions
 pub mod Page
-pub mod Widths
 pub mod Records

@@ -21,6 +21,7 @@ fn in_edition(edition: Edition, in1: LegalTexts, in3: LegalTexts, in4: LegalText
 }
 
 // The legal texts of element e, but for the blank; there are none where the edition has no element e.
+#[tactic(auto, using(crate::proofs::LegalTexts::in_all), unfolding(crate::specs::Page::page, crate::specs::Page::element))]
 pub fn legal_texts(edition: Edition, e: usize) -> LegalTexts
     ensures { result ≡ legal_texts edition e }
 {

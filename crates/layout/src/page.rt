@@ -15,26 +15,15 @@ pub fn columns(line: &[u8], start: usize, width: usize) -> &[u8]
     ensures result_value { result.now ≡ take width (drop start line.now) }
     ensures result_len_bound { length result.now ≤ width }
 {
-    if line.len() <= start {
-        return &line[..0];
-    }
-    if line.len() - start <= width {
-        return &line[start..];
-    }
-    &line[start..start + width]
+    let rest = &line[start.min(line.len())..];
+    &rest[..width.min(rest.len())]
 }
 
 // May element e be blank?
 fn may_be_blank(e: usize) -> bool
     ensures { result ≡ may_be_blank e }
 {
-    if e == 1 {
-        return false;
-    }
-    if e == 65 {
-        return false;
-    }
-    true
+    e != 1 && e != 65
 }
 
 // Is the text of element e blank, where it may be?

@@ -14,6 +14,7 @@ ghost use Rattle.layout.specs.Page.{start_of, text_of, legal_text};
 ghost use Rattle.blanking.specs.LostBytes.{blanked_text, is_fourth, changes, leaves, run, blanked_by, some, codes_lost, country_lost, version_lost, flags_lost, later_lost, shared_lost, blanked};
 
 use layout::{Edition, widths};
+use places::column_12::{Way, is_first};
 
 // Is it edition 4?
 fn is_fourth(edition: Edition) -> bool
@@ -23,17 +24,17 @@ fn is_fourth(edition: Edition) -> bool
 }
 
 // Is one of the two edition 4 and the other not?
-fn is_change(from: Edition, to: Edition) -> bool
-    ensures { result ≡ changes from to }
+fn is_change(way: Way) -> bool
+    ensures { result ≡ changes way.from way.to }
 {
-    is_fourth(from) != is_fourth(to)
+    is_fourth(way.from) != is_fourth(way.to)
 }
 
 // Does the record leave edition 4?
-fn is_leaving(from: Edition, to: Edition) -> bool
-    ensures { result ≡ leaves from to }
+fn is_leaving(way: Way) -> bool
+    ensures { result ≡ leaves way.from way.to }
 {
-    is_fourth(from) && !is_fourth(to)
+    is_fourth(way.from) && !is_fourth(way.to)
 }
 
 // Is the byte one from low to high?
@@ -133,24 +134,24 @@ fn blank_later(row: &mut [u8], back: bool)
 }
 
 // Blanks what is lost of the elements that every edition has.
-fn blank_shared(from: Edition, to: Edition, row: &mut [u8])
+fn blank_shared(way: Way, row: &mut [u8])
     requires { 131 ≤ length row.old }
-    ensures { row.new ≡ blanked (shared_lost from to) row.old }
+    ensures { row.new ≡ blanked (shared_lost way.from way.to) row.old }
 {
-    blank_codes(row, is_change(from, to));
-    blank_country(row, places::column_12::is_crossing(from, to));
-    blank_version(row, is_leaving(from, to));
-    blank_flags(row, is_leaving(from, to));
+    blank_codes(row, is_change(way));
+    blank_country(row, way.is_crossing());
+    blank_version(row, is_leaving(way));
+    blank_flags(row, is_leaving(way));
 }
 
 // Blanks the elements that are lost, in a row of the target's length.
-pub fn blank_lost(from: Edition, to: Edition, row: &mut [u8])
-    requires { (length row.old ≡ length_of to) × ((e : ℕ) → 1 ≤ e → e ≤ last_of to → legal_text from e (text_of e row.old) ≡ true) }
-    ensures { (e : ℕ) → 1 ≤ e → e ≤ last_of to → text_of e row.new ≡ blanked_text from to row.old e }
+pub fn blank_lost(way: Way, row: &mut [u8])
+    requires { (length row.old ≡ length_of way.to) × ((e : ℕ) → 1 ≤ e → e ≤ last_of way.to → legal_text way.from e (text_of e row.old) ≡ true) }
+    ensures { (e : ℕ) → 1 ≤ e → e ≤ last_of way.to → text_of e row.new ≡ blanked_text way.from way.to row.old e }
 {
-    blank_shared(from, to, row);
-    if places::column_12::is_first(to) {
+    blank_shared(way, row);
+    if is_first(way.to) {
         return;
     }
-    blank_later(row, is_leaving(from, to));
+    blank_later(row, is_leaving(way));
 }

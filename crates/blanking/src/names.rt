@@ -11,7 +11,8 @@ ghost use Rattle.blanking.specs.LostBytes.{leaves, codes_lost, country_lost, ver
 
 use crate::{is_change, is_in, is_leaving};
 use element_sets::ElementSet;
-use layout::{Edition, page};
+use layout::page;
+use places::column_12::Way;
 
 // The bit, where it is lost, and otherwise none.
 fn bit(lost: bool, mask: u8) -> u8
@@ -119,31 +120,28 @@ fn name_filled(line: &[u8]) -> u64
 }
 
 // Elements 86 to 101, which a record of edition 1 does not have.
-fn name_last(from: Edition, to: Edition, line: &[u8]) -> u64
-    requires { length line.now ≡ length_of from }
-    ensures { result ≡ bits (named (later_lost (is_first to) (leaves from to)) line.now) 65 37 }
+fn name_last(way: Way, line: &[u8]) -> u64
+    requires { length line.now ≡ length_of way.from }
+    ensures { result ≡ bits (named (later_lost (is_first way.to) (leaves way.from way.to)) line.now) 65 37 }
 {
-    if places::column_12::is_first(from) {
+    if places::column_12::is_first(way.from) {
         return 0;
     }
-    if places::column_12::is_first(to) {
+    if places::column_12::is_first(way.to) {
         return name_filled(line);
     }
-    name_later(line, is_leaving(from, to))
+    name_later(line, is_leaving(way))
 }
 
 // The elements that a recast of the record loses.
-pub fn losses_of(from: Edition, to: Edition, line: &[u8]) -> ElementSet
-    requires { (length line.now ≡ length_of from) × ((e : ℕ) → 1 ≤ e → e ≤ last_of from → legal_text from e (text_of e line.now) ≡ true) }
-    ensures { result ≡ set_of (lost_at from to line.now) }
+pub fn losses_of(way: Way, line: &[u8]) -> ElementSet
+    requires { (length line.now ≡ length_of way.from) × ((e : ℕ) → 1 ≤ e → e ≤ last_of way.from → legal_text way.from e (text_of e line.now) ≡ true) }
+    ensures { result ≡ set_of (lost_at way.from way.to line.now) }
 {
-    let back = is_leaving(from, to);
-    let codes = name_codes(line, is_change(from, to));
-    let country = name_country(line, places::column_12::is_crossing(from, to));
+    let back = is_leaving(way);
+    let codes = name_codes(line, is_change(way));
+    let country = name_country(line, way.is_crossing());
     let low = codes | country | name_version(line, back);
-    let high = name_flags(line, back) | name_last(from, to, line);
-    ElementSet {
-        low: low,
-        high: high,
-    }
+    let high = name_flags(line, back) | name_last(way, line);
+    ElementSet { low, high }
 }

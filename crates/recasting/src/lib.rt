@@ -15,18 +15,20 @@ ghost use Rattle.recasting.specs.Recast.{hemisphere, digit_of, widened, recast_r
 use blanking::names;
 use element_sets::ElementSet;
 use layout::{Edition, page, widths};
+use places::Figures;
+use places::column_12::Way;
 use refusals::Refusal;
 
 // What recasting a record answers: the elements lost, or why it is refused.
 pub type Outcome = Result<ElementSet, Refusal>;
 
 // Column 12 in the target.
-fn hemisphere_of(from: Edition, to: Edition, line: &[u8]) -> u8
+fn hemisphere_of(way: Way, line: &[u8]) -> u8
     requires { 131 ≤ length line.now }
-    ensures { result ≡ hemisphere from to line.now }
+    ensures { result ≡ hemisphere way.from way.to line.now }
 {
     let digit = page::full_text(line, 6);
-    if !places::column_12::is_crossing(from, to) {
+    if !way.is_crossing() {
         return page::first_byte(line, 6);
     }
     if text::is_blank(digit) {
@@ -34,13 +36,12 @@ fn hemisphere_of(from: Edition, to: Edition, line: &[u8]) -> u8
     }
     let latitude = page::full_text(line, 7);
     let longitude = page::full_text(line, 8);
-    places::column_12::lowest_digit(
-        from,
-        to,
-        text::number_of(digit),
-        text::number_of(latitude),
-        text::number_of(longitude),
-    )
+    let figures = Figures {
+        digit: text::number_of(digit),
+        latitude: text::number_of(latitude),
+        longitude: text::number_of(longitude),
+    };
+    places::column_12::lowest_digit(way, figures)
 }
 
 // Column 111 in the target: the digit of its number.
@@ -65,16 +66,16 @@ fn fill_rest(from: Edition, line: &[u8], rest: &mut [u8])
 
 // Copies the record into a row of the target's length. The lengths stand in the code, so that the
 // compiler knows them.
-fn fill(from: Edition, to: Edition, line: &[u8], row: &mut [u8])
-    requires { (length line.now ≡ length_of from) × (length row.old ≡ length_of to) }
-    ensures { row.new ≡ take (length_of to) (widened line.now) }
+fn fill(way: Way, line: &[u8], row: &mut [u8])
+    requires { (length line.now ≡ length_of way.from) × (length row.old ≡ length_of way.to) }
+    ensures { row.new ≡ take (length_of way.to) (widened line.now) }
 {
     octets::copy(&line[..Edition::LENGTH_1], row);
-    if places::column_12::is_first(to) {
+    if places::column_12::is_first(way.to) {
         return;
     }
     let rest = &mut row[Edition::LENGTH_1..];
-    fill_rest(from, line, rest);
+    fill_rest(way.from, line, rest);
 }
 
 // Puts a byte in the first column of element e.
@@ -86,29 +87,29 @@ fn put(row: &mut [u8], e: usize, b: u8)
 }
 
 // Makes the recast record in a row of the target's length.
-fn make(from: Edition, to: Edition, line: &[u8], row: &mut [u8])
-    requires { (checked line.now ≡ Ok from) × (length row.old ≡ length_of to) }
-    ensures { row.new ≡ recast_record from to line.now }
+fn make(way: Way, line: &[u8], row: &mut [u8])
+    requires { (checked line.now ≡ Ok way.from) × (length row.old ≡ length_of way.to) }
+    ensures { row.new ≡ recast_record way.from way.to line.now }
 {
-    fill(from, to, line, row);
-    blanking::blank_lost(from, to, row);
-    put(row, 6, hemisphere_of(from, to, line));
-    put(row, 65, digit_of(to));
+    fill(way, line, row);
+    blanking::blank_lost(way, row);
+    put(row, 6, hemisphere_of(way, line));
+    put(row, 65, digit_of(way.to));
 }
 
 // Recasts an accepted record to an edition that is held, straight into the lent buffer: no byte of it is
 // written before every refusal was asked.
-fn recast_in(from: Edition, to: Edition, line: &[u8], buffer: &mut [u8]) -> Outcome
-    requires { checked line.now ≡ Ok from }
-    ensures { Answers outcome_of (recast_to from (Some to) line.now) buffer.old buffer.new result }
+fn recast_in(way: Way, line: &[u8], buffer: &mut [u8]) -> Outcome
+    requires { checked line.now ≡ Ok way.from }
+    ensures { Answers outcome_of (recast_to way.from (Some way.to) line.now) buffer.old buffer.new result }
 {
-    let length = to.length();
+    let length = way.to.length();
     if buffer.len() < length {
         return Err(Refusal::Room);
     }
     let row = &mut buffer[..length];
-    make(from, to, line, row);
-    Ok(names::losses_of(from, to, line))
+    make(way, line, row);
+    Ok(names::losses_of(way, line))
 }
 
 // Recasts a record: any bytes, any edition number, any buffer. Success writes the first 131 or 159
@@ -118,5 +119,5 @@ pub fn recast(line: &[u8], edition: u64, buffer: &mut [u8]) -> Outcome
 {
     let from = checking::check(line)?;
     let to = Edition::of_number(edition).ok_or(Refusal::Unheld)?;
-    recast_in(from, to, line, buffer)
+    recast_in(Way { from, to }, line, buffer)
 }

@@ -1,210 +1,167 @@
-// What the program readings says of a record, put into a lent buffer.
+// What the program readings says of a record, put on a sheet.
 #![tactic(auto)]
 
-ghost use Rattle.std.specs.Prelude.{◌+◌, ◌≤◌, ◌++◌, ◌≡◌, length};
+ghost use Rattle.std.specs.Prelude.{◌≤◌, ◌≡◌, length, Ok};
 ghost use Rattle.layout.specs.Editions.{length_of};
 ghost use Rattle.reading.specs.declared.Reading.TheVariants.{Amount, At};
-ghost use Rattle.reading.specs.Answers.{readings};
-ghost use Rattle.wording.specs.Wording.{decimal, numbered, line_end};
-ghost use Rattle.wording.specs.Puts.{Puts};
+ghost use Rattle.wording.specs.Wording.{decimal};
+ghost use Rattle.wording.specs.Puts.{HasRoom, Adds};
 ghost use Rattle.report_lines.specs.Says.{line_most, record_most, Says};
-ghost use Rattle.reading_lines.specs.Sentences.{kind_words, element_of, reading_line, reading_lines, same_text, written_back, written_line, read_text, read_said, read_refused};
+ghost use Rattle.reading_lines.specs.Sentences.{kind_words, reading_words, reading_line, reading_lines, written_back, written_line, read_text, read_said, read_refused};
 
-use checking::Answer;
 use layout::{ELEMENTS, Edition, LONGEST};
 use places::Place;
-use reading::{Entry, Kind, Reading};
-use refusals::Verdict;
-use report_lines::Said;
-use wording::{put_number, put_numbered, put_signed, put_text};
+use reading::{Kind, Reading};
+use wording::Sheet;
 
 // Puts how an amount was come by.
-fn put_kind(out: &mut [u8], at: usize, kind: Kind) -> usize
-    requires { at + 14 ≤ length out.old }
-    ensures puts { Puts (kind_words kind) at out.old out.new result }
-    ensures upper_bound { result ≤ at + 14 }
+fn put_kind(sheet: &mut Sheet<'_>, kind: Kind)
+    requires { HasRoom 14 sheet.old }
+    ensures { Adds (kind_words kind) 14 sheet.old sheet.new }
 {
     match kind {
-        Kind::Measured => put_text(out, at, b" measured"),
-        Kind::Computed => put_text(out, at, b" computed"),
-        Kind::IcedMeasured => put_text(out, at, b" iced measured"),
-        Kind::IcedComputed => put_text(out, at, b" iced computed"),
+        Kind::Measured => sheet.put_text(b" measured"),
+        Kind::Computed => sheet.put_text(b" computed"),
+        Kind::IcedMeasured => sheet.put_text(b" iced measured"),
+        Kind::IcedComputed => sheet.put_text(b" iced computed"),
     }
 }
 
-// Begins the line of an element: the count of the record, which is spelled once for all its lines, and the
-// element.
-fn put_element(out: &mut [u8], at: usize, count: &[u8], e: u64) -> usize
-    requires { (at + 41 ≤ length out.old) × (length count.now ≤ 20) }
-    ensures puts { Puts (element_of count.now e) at out.old out.new result }
-    ensures upper_bound { result ≤ at + 41 }
+// Puts an amount, and how it was come by.
+fn put_amount(sheet: &mut Sheet<'_>, amount: i64, kind: Kind)
+    requires { HasRoom 43 sheet.old }
+    ensures { Adds (reading_words (Amount amount kind)) 43 sheet.old sheet.new }
 {
-    let after = put_text(out, at, count);
-    put_numbered(out, after, b" ", e)
+    sheet.put_text(b" amount ");
+    sheet.put_signed(amount);
+    put_kind(sheet, kind);
 }
 
-// Puts the line of an element that reads as a number, with a word before it.
-fn put_value(out: &mut [u8], at: usize, count: &[u8], e: u64, word: &[u8], n: u64) -> usize
-    requires { (at + line_most ≤ length out.old) × ((length count.now ≤ 20) × (length word.now ≤ 6)) }
-    ensures puts { Puts (element_of count.now e ++ numbered word.now n ++ line_end) at out.old out.new result }
-    ensures upper_bound { result ≤ at + line_most }
+// Puts a place: latitude, east longitude and the digit of column 12.
+fn put_place(sheet: &mut Sheet<'_>, place: Place)
+    requires { HasRoom 70 sheet.old }
+    ensures { Adds (reading_words (At place)) 70 sheet.old sheet.new }
 {
-    let a = put_element(out, at, count, e);
-    let b = put_numbered(out, a, word, n);
-    put_text(out, b, b"\n")
+    sheet.put_text(b" place ");
+    sheet.put_signed(place.latitude);
+    sheet.put_numbered(b" ", place.longitude);
+    sheet.put_numbered(b" ", place.digit);
 }
 
-// Puts the line of an element that reads as an amount.
-fn put_amount(out: &mut [u8], at: usize, count: &[u8], e: u64, amount: i64, kind: Kind) -> usize
-    requires { (at + line_most ≤ length out.old) × (length count.now ≤ 20) }
-    ensures puts { Puts (reading_line count.now e (Amount amount kind)) at out.old out.new result }
-    ensures upper_bound { result ≤ at + line_most }
-{
-    let a = put_element(out, at, count, e);
-    let b = put_text(out, a, b" amount ");
-    let c = put_signed(out, b, amount);
-    let d = put_kind(out, c, kind);
-    put_text(out, d, b"\n")
-}
-
-// Puts the line of an element that reads as a place: latitude, east longitude and the digit of column 12.
-fn put_place(out: &mut [u8], at: usize, count: &[u8], e: u64, place: Place) -> usize
-    requires { (at + line_most ≤ length out.old) × (length count.now ≤ 20) }
-    ensures puts { Puts (reading_line count.now e (At place)) at out.old out.new result }
-    ensures upper_bound { result ≤ at + line_most }
-{
-    let a = put_element(out, at, count, e);
-    let b = put_text(out, a, b" place ");
-    let c = put_signed(out, b, place.latitude);
-    let d = put_numbered(out, c, b" ", place.longitude);
-    let f = put_numbered(out, d, b" ", place.digit);
-    put_text(out, f, b"\n")
-}
-
-// Puts the line of an element, or none where it is missing.
-fn put_reading(out: &mut [u8], at: usize, count: &[u8], e: u64, reading: Reading) -> usize
-    requires { (at + line_most ≤ length out.old) × (length count.now ≤ 20) }
-    ensures puts { Puts (reading_line count.now e reading) at out.old out.new result }
-    ensures upper_bound { result ≤ at + line_most }
+// Puts what an element reads as, and nothing where it is missing.
+fn put_words(sheet: &mut Sheet<'_>, reading: Reading)
+    requires { HasRoom 70 sheet.old }
+    ensures { Adds (reading_words reading) 70 sheet.old sheet.new }
 {
     match reading {
-        Reading::Missing => at,
-        Reading::Code(n) => put_value(out, at, count, e, b" code ", n),
-        Reading::Text(n) => put_value(out, at, count, e, b" text ", n),
-        Reading::Amount(amount, kind) => put_amount(out, at, count, e, amount, kind),
-        Reading::At(place) => put_place(out, at, count, e, place),
+        Reading::Missing => {}
+        Reading::Code(n) => sheet.put_numbered(b" code ", n),
+        Reading::Text(n) => sheet.put_numbered(b" text ", n),
+        Reading::Amount(amount, kind) => put_amount(sheet, amount, kind),
+        Reading::At(place) => put_place(sheet, place),
+    }
+}
+
+// Puts the line of an element, or none where it is missing. The count of the record stands in each of its
+// lines, and is spelled once for all of them.
+fn put_reading(sheet: &mut Sheet<'_>, count: &[u8], element: u64, reading: Reading)
+    requires { HasRoom line_most sheet.old × (length count.now ≤ 20) }
+    ensures { Adds (reading_line count.now element reading) line_most sheet.old sheet.new }
+{
+    match reading {
+        Reading::Missing => {}
+        _ => {
+            sheet.put_text(count);
+            sheet.put_numbered(b" ", element);
+            put_words(sheet, reading);
+            sheet.put_text(b"\n");
+        }
     }
 }
 
 // Puts the lines of all 101 elements.
-fn put_readings(out: &mut [u8], at: usize, count: &[u8], entries: [Entry; ELEMENTS]) -> usize
-    requires { (at + 11312 ≤ length out.old) × (length count.now ≤ 20) }
-    ensures puts { Puts (reading_lines count.now 1 (readings entries)) at out.old out.new result }
-    ensures upper_bound { result ≤ at + 11312 }
+fn put_readings(sheet: &mut Sheet<'_>, count: &[u8], entries: [Reading; ELEMENTS])
+    requires { HasRoom 11312 sheet.old × (length count.now ≤ 20) }
+    ensures { Adds (reading_lines count.now 1 entries) 11312 sheet.old sheet.new }
 {
-    let mut end = at;
-    let mut k = 0;
-    while k < ELEMENTS {
-        let entry = entries[k];
-        let reading = entry.reading;
-        k += 1;
-        end = put_reading(out, end, count, k as u64, reading);
+    for (k, reading) in entries.iter().enumerate() {
+        put_reading(sheet, count, k as u64 + 1, *reading);
     }
-    end
 }
 
 // Spells the count of the record, and puts the lines of all its elements.
-fn put_elements(out: &mut [u8], at: usize, count: u64, entries: [Entry; ELEMENTS]) -> usize
-    requires { at + 11312 ≤ length out.old }
-    ensures puts { Puts (reading_lines (decimal count) 1 (readings entries)) at out.old out.new result }
-    ensures upper_bound { result ≤ at + 11312 }
+fn put_elements(sheet: &mut Sheet<'_>, count: u64, entries: [Reading; ELEMENTS])
+    requires { HasRoom 11312 sheet.old }
+    ensures { Adds (reading_lines (decimal count) 1 entries) 11312 sheet.old sheet.new }
 {
     let mut digits = [0u8; 20];
-    let length = put_number(&mut digits, 0, count);
-    put_readings(out, at, &digits[..length], entries)
-}
-
-// Are two texts the same?
-fn is_same(a: &[u8], b: &[u8]) -> bool
-    ensures { result ≡ same_text a.now b.now }
-{
-    if a.len() != b.len() {
-        return false;
-    }
-    let mut i = 0;
-    while i < a.len() {
-        if a[i] != b[i] {
-            return false;
-        }
-        i += 1;
-    }
-    true
+    let mut spelled = Sheet {
+        out: &mut digits,
+        end: 0,
+    };
+    spelled.put_number(count);
+    let length = spelled.end;
+    put_readings(sheet, &digits[..length], entries);
 }
 
 // Does writing the readings give the record back?
-fn is_written_back(edition: Edition, entries: [Entry; ELEMENTS], line: &[u8]) -> bool
-    ensures { result ≡ written_back edition (readings entries) line.now }
+fn is_written_back(edition: Edition, entries: [Reading; ELEMENTS], line: &[u8]) -> bool
+    ensures { result ≡ written_back edition entries line.now }
 {
     let mut buffer = [0u8; LONGEST];
     let length = edition.length();
     match writing::write(entries, edition.number(), &mut buffer) {
-        Verdict::Fine => is_same(&buffer[..length], line),
-        Verdict::Refused(_) => false,
+        Ok(()) => &buffer[..length] == line,
+        Err(_) => false,
     }
 }
 
 // Puts whether the readings gave the record back.
-fn put_written(out: &mut [u8], at: usize, count: u64, is_back: bool) -> usize
-    requires { at + line_most ≤ length out.old }
-    ensures puts { Puts (written_line count is_back) at out.old out.new result }
-    ensures upper_bound { result ≤ at + line_most }
+fn put_written(sheet: &mut Sheet<'_>, count: u64, is_back: bool)
+    requires { HasRoom line_most sheet.old }
+    ensures { Adds (written_line count is_back) line_most sheet.old sheet.new }
 {
-    let after = put_number(out, at, count);
+    sheet.put_number(count);
     if is_back {
-        return put_text(out, after, b" written same\n");
+        sheet.put_text(b" written same\n");
+    } else {
+        sheet.put_text(b" written other\n");
     }
-    put_text(out, after, b" written other\n")
 }
 
 // Puts all that is said of an accepted record.
 fn put_record(
-    out: &mut [u8],
-    at: usize,
+    sheet: &mut Sheet<'_>,
     count: u64,
     edition: Edition,
-    entries: [Entry; ELEMENTS],
+    entries: [Reading; ELEMENTS],
     line: &[u8],
-) -> usize
-    requires { (at + record_most ≤ length out.old) × (length line.now ≡ length_of edition) }
-    ensures puts { Puts (read_text count line.now (Answer.Accepted edition) (readings entries)) at out.old out.new result }
-    ensures upper_bound { result ≤ at + record_most }
+)
+    requires { HasRoom record_most sheet.old × (length line.now ≡ length_of edition) }
+    ensures { Adds (read_text count line.now (Ok edition) entries) record_most sheet.old sheet.new }
 {
-    let sign = checking::call_sign_after(Answer::Accepted(edition), line);
+    let sign = checking::call_sign_after(Ok(edition), line);
     let is_back = is_written_back(edition, entries, line);
-    let a = report_lines::put_accepted(out, at, count, edition);
-    let b = put_elements(out, a, count, entries);
-    let c = report_lines::put_call_sign(out, b, count, sign);
-    put_written(out, c, count, is_back)
+    report_lines::put_accepted(sheet, count, edition);
+    put_elements(sheet, count, entries);
+    report_lines::put_call_sign(sheet, count, sign);
+    put_written(sheet, count, is_back);
 }
 
-// Says of a record what it holds, as the one call that reads it answers.
-pub fn tell(line: &[u8], count: u64, out: &mut [u8], at: usize) -> Said
-    requires { at + record_most ≤ length out.old }
-    ensures { Says (read_said count line.now) (read_refused line.now) at out.old out.new result }
+// Says of a record what it holds, as the one call that reads it answers. Is it refused?
+pub fn tell(sheet: &mut Sheet<'_>, count: u64, line: &[u8]) -> bool
+    requires { HasRoom record_most sheet.old }
+    ensures { Says (read_said count line.now) (read_refused line.now) sheet.old sheet.new result }
 {
     let all = reading::read(line);
-    let answer = all.answer;
-    match answer {
-        Answer::Accepted(edition) => {
-            let entries = all.entries;
-            Said {
-                end: put_record(out, at, count, edition, entries, line),
-                refused: false,
-            }
+    match all.answer {
+        Ok(edition) => {
+            put_record(sheet, count, edition, all.entries, line);
+            false
         }
-        Answer::Refused(refusal) => Said {
-            end: report_lines::put_refused(out, at, count, refusal),
-            refused: true,
-        },
+        Err(refusal) => {
+            report_lines::put_refused(sheet, count, refusal);
+            true
+        }
     }
 }

@@ -79,8 +79,7 @@ fn write_in(edition: Edition, entries: [Reading; ELEMENTS], buffer: &mut [u8]) -
     if let Some(e) = first_unwritten(edition, entries, record) {
         return Err(Refusal::Illegal(reading::lead_of(e)));
     }
-    let k = ties::first_broken(edition, record);
-    if k != 0 {
+    if let Some(k) = ties::first_broken(edition, record) {
         return Err(Refusal::Broken(k));
     }
     if buffer.len() < length {

@@ -4,94 +4,23 @@ use mathlib.Core.Path.{◌≡◌, refl, sym, ap, ◌∙◌}
 use mathlib.Core.Logic.{⊎_elim}
 use mathlib.Core.Bool.{Bool, true, false, cond, ◌||◌}
 use mathlib.Core.List.{List}
-use Prim.Native.Nat.{ℕ, ◌+◌, ◌-◌, ◌%◌, ◌≤◌, ◌<◌}
+use Prim.Native.Nat.{ℕ, ◌+◌, ◌-◌, ◌≤◌, ◌<◌}
 use native.Mathlib.Omega.{arith}
 use borrow.Author.Tests.{eq-eqb, ne_eqb, eqb-true, eqb-false}
 use native.Mathlib.Nat.{le_refl, eq-or-lt_of_le}
-use lib.Dec.{eqb, leb, lit≤}
-use lib.IntN.{ℤ}
+use lib.Dec.{eqb, lit≤}
 use lib.ListN.{length}
-use Rattle.text.specs.Bytes.{every, blank, digits, number, word}
+use Rattle.text.specs.Bytes.{every}
 use Rattle.text.specs.LegalTexts.{among}
 use Rattle.text.proofs.Among.{among_cases, neither_first, neither_second}
 use Rattle.text.proofs.Ways.{decide}
 use Rattle.layout.specs.declared.Edition.{Edition}
 use Rattle.layout.specs.Editions.{length_of, last_of}
-use Rattle.layout.specs.Page.{text_of, is_text, is_departure, is_coordinate, is_sign, is_temperature, element, page}
+use Rattle.layout.specs.Page.{text_of, is_departure, is_coordinate, is_sign, is_temperature, element, page}
 use Rattle.layout.proofs.Beyond.{last_above, text_none}
-use Rattle.reading.specs.declared.Kind.{Kind}
-use Rattle.reading.specs.declared.Kind.TheVariants.{Measured}
 use Rattle.reading.specs.declared.Reading.{Reading}
-use Rattle.reading.specs.declared.Reading.TheVariants.{Missing, Code, Text, Amount, At}
-use Rattle.places.specs.declared.Place.{Place}
-use Rattle.places.specs.Places.{place_at}
-use Rattle.signs.specs.Signed.{signed}
-use Rattle.reading.specs.Readings.{code_of, plain, below, kind_of, temperature, departure, place_of, lead, item_of, reading_of}
-
--- an element by itself
-module _ (e : ℕ) (t : List ℕ) (x : Bool) (p : x ≡ blank t) where
-  pub plain_missing : x ≡ true → Missing ≡ plain e t
-  unfolding plain
-  plain_missing h = rw (← p, h)
-
-  module _ (h : x ≡ false) (y : Bool) (q : y ≡ digits t) where
-    pub plain_other : y ≡ false → (n : ℕ) → n ≡ word t → Text n ≡ plain e t
-    unfolding plain
-    plain_other k n f = rw (← p, h, ← q, k, f)
-
-    module _ (k : y ≡ true) (z : Bool) (r : z ≡ is_text e) where
-      pub plain_text : z ≡ true → (n : ℕ) → n ≡ word t → Text n ≡ plain e t
-      unfolding plain
-      plain_text l n f = rw (← p, h, ← q, k, ← r, l, f)
-
-      pub plain_code : z ≡ false → (n m : ℕ) → n ≡ number t → m ≡ code_of e n → Code m ≡ plain e t
-      unfolding plain
-      plain_code l n m f g = rw (← p, h, ← q, k, ← r, l) (ap Code (g ∙ ap (code_of e) f))
-
--- a sign and its temperature
-module _ (s v : List ℕ) (x : Bool) (p : x ≡ blank s) where
-  pub no_sign : x ≡ true → Missing ≡ temperature s v
-  unfolding temperature
-  no_sign h = rw (← p, h)
-
-  module _ (h : x ≡ false) (y : Bool) (q : y ≡ blank v) where
-    pub no_value : y ≡ true → Missing ≡ temperature s v
-    unfolding temperature
-    no_value k = rw (← p, h, ← q, k)
-
-    pub is_temperature_lem : y ≡ false → (n m : ℕ) (b : Bool) (z : ℤ) (k : Kind) → n ≡ number s → b ≡ below n → m ≡ number v → z ≡ signed b m → k ≡ kind_of n → Amount z k ≡ temperature s v
-    unfolding temperature
-    is_temperature_lem l n m b z k f g i j o = rw (← p, h, ← q, l, ← f, ← i, ← g, ← j, ← o)
-
--- element 91
-module _ (t : List ℕ) (x : Bool) (p : x ≡ blank t) where
-  pub no_departure : x ≡ true → Missing ≡ departure t
-  unfolding departure
-  no_departure h = rw (← p, h)
-
-  pub is_departure_lem : x ≡ false → (n m : ℕ) (z : ℤ) → n ≡ number t → m ≡ n % 100 → z ≡ signed (leb 100 n) m → Amount z Measured ≡ departure t
-  unfolding departure
-  is_departure_lem h n m z f g i = rw (← p, h, ← f, ← g, ← i)
-
--- column 12, latitude and longitude
-module _ (ed : Edition) (q la lo : List ℕ) (x : Bool) (p : x ≡ blank q) where
-  pub no_digit : x ≡ true → Missing ≡ place_of ed q la lo
-  unfolding place_of
-  no_digit h = rw (← p, h)
-
-  module _ (h : x ≡ false) (y : Bool) (r : y ≡ blank la) where
-    pub no_latitude : y ≡ true → Missing ≡ place_of ed q la lo
-    unfolding place_of
-    no_latitude k = rw (← p, h, ← r, k)
-
-    module _ (k : y ≡ false) (z : Bool) (s : z ≡ blank lo) where
-      pub no_longitude : z ≡ true → Missing ≡ place_of ed q la lo
-      unfolding place_of
-      no_longitude l = rw (← p, h, ← r, k, ← s, l)
-
-      pub is_place : z ≡ false → (d m n : ℕ) (at : Place) → d ≡ number q → m ≡ number la → n ≡ number lo → at ≡ place_at ed d m n → At at ≡ place_of ed q la lo
-      unfolding place_of
-      is_place l d m n at e f g i = rw (← p, h, ← r, k, ← s, l, ← e, ← f, ← g, i)
+use Rattle.reading.specs.declared.Reading.TheVariants.{Missing}
+use Rattle.reading.specs.Readings.{plain, temperature, departure, place_of, lead, item_of, reading_of}
 
 -- a number that is one of four is no more than the greatest of them, and no less than the least
 pub among_below : (k a b c d n : ℕ) → a ≤ k → b ≤ k → c ≤ k → d ≤ k → among a b c d n ≡ true → n ≤ k
@@ -149,10 +78,6 @@ module _ {r : Reading} where
 
   pub from_three : (f : List ℕ → List ℕ → List ℕ → Reading) {a a' b b' c c' : List ℕ} → r ≡ f a b c → a ≡ a' → b ≡ b' → c ≡ c' → r ≡ f a' b' c'
   from_three f {a} {a'} {b} {b'} {c} {c'} e p q s = from_two (λ x y. f x y c') (e ∙ ap (f a b) s) p q
-
--- the elements that share a reading with a lower one, by number
-pub lead_numbers : (e : ℕ) → lead e ≡ cond (among 7 8 7 8 e) 6 (cond (among 17 19 29 51 e) (e - 1) e)
-lead_numbers e = rw (coordinate_is e, temperature_is e)
 
 -- the lowest element that shares a reading with e is one of the elements, and no higher than e
 pub record Lead (e l : ℕ) : Type 0 where

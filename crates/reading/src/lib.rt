@@ -17,7 +17,7 @@ use checking::Answer;
 use faults::strays;
 use layout::widths::width_of;
 use layout::{ELEMENTS, Edition, page};
-use places::Place;
+use places::{Figures, Place};
 
 // How an amount came about.
 #[derive(Clone, Copy, PartialEq, Eq)]
@@ -63,6 +63,7 @@ fn code_of(e: usize, n: u32) -> u64
 }
 
 // The reading of an element by itself.
+#[tactic(auto, unfolding(crate::specs::Readings::plain))]
 fn plain_of(e: usize, text: &[u8]) -> Reading
     requires { length text.now ≤ 7 }
     ensures { result ≡ plain e text.now }
@@ -110,14 +111,12 @@ fn kind_of(sign: u32) -> Kind
 }
 
 // The reading of a sign and its temperature.
+#[tactic(auto, unfolding(crate::specs::Readings::temperature))]
 fn temperature_of(sign: &[u8], value: &[u8]) -> Reading
     requires { (length sign.now ≤ 7) × (length value.now ≤ 7) }
     ensures { result ≡ temperature sign.now value.now }
 {
-    if text::is_blank(sign) {
-        return Reading::Missing;
-    }
-    if text::is_blank(value) {
+    if text::is_blank(sign) || text::is_blank(value) {
         return Reading::Missing;
     }
     let s = text::number_of(sign);
@@ -129,6 +128,7 @@ fn temperature_of(sign: &[u8], value: &[u8]) -> Reading
 }
 
 // The reading of element 91.
+#[tactic(auto, unfolding(crate::specs::Readings::departure))]
 fn departure_of(text: &[u8]) -> Reading
     requires { length text.now ≤ 7 }
     ensures { result ≡ departure text.now }
@@ -144,26 +144,20 @@ fn departure_of(text: &[u8]) -> Reading
 }
 
 // The reading of column 12, latitude and longitude.
+#[tactic(auto, unfolding(crate::specs::Readings::place_of))]
 fn place_of(edition: Edition, digit: &[u8], latitude: &[u8], longitude: &[u8]) -> Reading
     requires { (length digit.now ≤ 7) × ((length latitude.now ≤ 7) × (length longitude.now ≤ 7)) }
     ensures { result ≡ place_of edition digit.now latitude.now longitude.now }
 {
-    if text::is_blank(digit) {
+    if text::is_blank(digit) || text::is_blank(latitude) || text::is_blank(longitude) {
         return Reading::Missing;
     }
-    if text::is_blank(latitude) {
-        return Reading::Missing;
-    }
-    if text::is_blank(longitude) {
-        return Reading::Missing;
-    }
-    let place = places::place_at(
-        edition,
-        text::number_of(digit),
-        text::number_of(latitude),
-        text::number_of(longitude),
-    );
-    Reading::At(place)
+    let figures = Figures {
+        digit: text::number_of(digit),
+        latitude: text::number_of(latitude),
+        longitude: text::number_of(longitude),
+    };
+    Reading::At(places::place_at(edition, figures))
 }
 
 // The lowest element of those that share a reading with element e.
@@ -219,6 +213,7 @@ fn item_at(edition: Edition, line: &[u8], e: usize, at: usize) -> Reading
 }
 
 // The reading of an element that shares it with no other.
+#[tactic(auto, using(layout::proofs::PartLaws::departure_is))]
 fn alone_of(e: usize, text: &[u8]) -> Reading
     requires { length text.now ≤ 7 }
     ensures { result ≡ cond (is_departure e) (departure text.now) (plain e text.now) }

@@ -19,14 +19,16 @@ fn is_there(text: &[u8]) -> bool
 }
 
 // Tie 1.
+#[tactic(auto, unfolding(crate::specs::Ties::place_tie))]
 fn place_tie(digit: &[u8], latitude: &[u8], longitude: &[u8]) -> bool
     ensures { result ≡ place_tie digit.now latitude.now longitude.now }
 {
     let at = is_there(latitude);
-    text::same(is_there(digit), at) && text::same(at, is_there(longitude))
+    is_there(digit) == at && at == is_there(longitude)
 }
 
 // Tie 2, in edition 1.
+#[tactic(auto, unfolding(crate::specs::Ties::octant_tie))]
 fn octant_holds(digit: &[u8], longitude: &[u8]) -> bool
     requires { (length digit.now ≤ 7) × (length longitude.now ≤ 7) }
     ensures { result ≡ octant_tie Edition.One digit.now longitude.now }
@@ -35,14 +37,14 @@ fn octant_holds(digit: &[u8], longitude: &[u8]) -> bool
 }
 
 // Tie 2.
+#[tactic(auto, unfolding(crate::specs::Ties::octant_tie))]
 fn octant_tie(edition: Edition, digit: &[u8], longitude: &[u8]) -> bool
     requires { (length digit.now ≤ 7) × (length longitude.now ≤ 7) }
     ensures { result ≡ octant_tie edition digit.now longitude.now }
 {
     match edition {
         Edition::One => octant_holds(digit, longitude),
-        Edition::Three => true,
-        Edition::Four => true,
+        Edition::Three | Edition::Four => true,
     }
 }
 
@@ -50,36 +52,28 @@ fn octant_tie(edition: Edition, digit: &[u8], longitude: &[u8]) -> bool
 fn minus_zero(sign: u32, value: u32) -> bool
     ensures { result ≡ (minus sign && eqb value 0) }
 {
-    if sign == 1 {
-        return value == 0;
-    }
-    if sign == 6 {
-        return value == 0;
-    }
-    false
+    matches!(sign, 1 | 6) && value == 0
 }
 
 // Ties 3 to 6.
+#[tactic(auto, unfolding(crate::specs::Ties::sign_tie))]
 fn sign_tie(sign: &[u8], value: &[u8]) -> bool
     requires { (length sign.now ≤ 7) × (length value.now ≤ 7) }
     ensures { result ≡ sign_tie sign.now value.now }
 {
-    text::same(is_there(sign), is_there(value))
-        && !minus_zero(text::number_of(sign), text::number_of(value))
+    is_there(sign) == is_there(value) && !minus_zero(text::number_of(sign), text::number_of(value))
 }
 
 // Does the temperature's last digit go with column 1?
+#[tactic(auto, unfolding(crate::specs::Ties::last_digit))]
 fn last_digit(format: u32, value: u32) -> bool
     ensures { result ≡ last_digit format value }
 {
-    let last = value % 10;
-    if format == 4 {
-        return last == 0 || last == 5;
+    match format {
+        4 => matches!(value % 10, 0 | 5),
+        5 => value % 10 == 0,
+        _ => true,
     }
-    if format == 5 {
-        return last == 0;
-    }
-    true
 }
 
 // The same of their texts.
@@ -95,21 +89,11 @@ fn measured_fit(format: &[u8], sign: &[u8], value: &[u8]) -> bool
     requires { (length format.now ≤ 7) × ((length sign.now ≤ 7) × (length value.now ≤ 7)) }
     ensures { result ≡ measured_fit format.now sign.now value.now }
 {
-    if text::number_of(sign) <= 2 {
-        tenths_fit(format, value)
-    } else {
-        true
-    }
+    2 < text::number_of(sign) || tenths_fit(format, value)
 }
 
-// Do both hold?
-fn both(first: bool, second: bool) -> bool
-    ensures { result ≡ (first && second) }
-{
-    first && second
-}
-
-// Tie 7, which is the same in every edition.
+// Tie 7, which is the same in every edition. The four are joined as its definition joins them.
+#[tactic(auto, unfolding(crate::specs::Ties::tie, crate::specs::Ties::digit_tie))]
 fn digit_tie(line: &[u8]) -> bool
     ensures { (ed : Edition) → result ≡ tie ed line.now 7 }
 {
@@ -118,10 +102,11 @@ fn digit_tie(line: &[u8]) -> bool
     let dew_point = measured_fit(format, page::text_of(line, 18), page::text_of(line, 19));
     let sea = tenths_fit(format, page::text_of(line, 29));
     let wet_bulb = measured_fit(format, page::text_of(line, 50), page::text_of(line, 51));
-    both(air, both(dew_point, both(sea, wet_bulb)))
+    air && (dew_point && (sea && wet_bulb))
 }
 
 // Ties 8 and 9.
+#[tactic(auto, unfolding(crate::specs::Ties::wind_tie))]
 fn wind_tie(speed: &[u8], indicator: &[u8]) -> bool
     ensures { result ≡ wind_tie speed.now indicator.now }
 {
@@ -130,6 +115,7 @@ fn wind_tie(speed: &[u8], indicator: &[u8]) -> bool
 
 // Tie 10, which is the same in every edition. What is blank says 0: the year 0 is a leap year, a month 0
 // is none of the shorter ones, and a day 0 is past none.
+#[tactic(auto, using(crate::proofs::Days::by_numbers), unfolding(crate::specs::Ties::tie))]
 fn day_tie(line: &[u8]) -> bool
     ensures { (ed : Edition) → result ≡ tie ed line.now 10 }
 {
@@ -143,6 +129,7 @@ fn day_tie(line: &[u8]) -> bool
 const LAST: usize = 10;
 
 // Does tie k hold?
+#[tactic(auto, unfolding(crate::specs::Ties::tie))]
 fn holds(edition: Edition, line: &[u8], k: usize) -> bool
     ensures { result ≡ tie edition line.now k }
 {

@@ -1,4 +1,5 @@
 -- The first 160 bytes of a line tell all that there is to tell of it: no record is longer than 159. Assumes nothing.
+use Rattle.std.specs.Prelude.{None, Option}
 use mathlib.Core.Path.{◌≡◌, refl, sym, ap, ◌∙◌}
 use mathlib.Core.Bool.{Bool, true, false}
 use mathlib.Core.List.{List, [], ◌∷◌, ◌++◌}
@@ -9,8 +10,7 @@ use lib.Dec.{leb, ltb}
 use lib.ListN.{length, take, length-append}
 use lib.Seq.{take_all, take-append-le, length-take-le}
 use Rattle.refusals.specs.declared.Refusal.TheVariants.{Length}
-use Rattle.layout.specs.declared.Named.{Named}
-use Rattle.layout.specs.declared.Named.TheVariants.{Unknown}
+use Rattle.layout.specs.declared.Edition.{Edition}
 use Rattle.report_lines.specs.Sentences.{refused_line}
 use Rattle.check_lines.proofs.CheckTold as Checked
 use Rattle.reading_lines.proofs.ReadTold as Read
@@ -35,7 +35,7 @@ module _ (line : List ℕ) (long : 159 < length line) where
   long_refused Readings = Read.long_refused line long
   long_refused (Recast edition) = Recasts.long_refused line long edition
 
-  long_asked : asked_by line ≡ Unknown
+  long_asked : asked_by line ≡ None
   unfolding asked_by
   long_asked = rw (ne_eqb (length line) 1 (λ e. omega arith))
 
@@ -57,7 +57,7 @@ refused_cut : (job : Job) (line : List ℕ) → refused_for job (take 160 line) 
 refused_cut job = cut (λ line. refused_for job line) true (λ line long. long_refused line long job)
 
 asked_cut : (line : List ℕ) → asked_by (take 160 line) ≡ asked_by line
-asked_cut = cut asked_by Unknown long_asked
+asked_cut = cut asked_by None long_asked
 
 said_in_cut : (s : Stage) (n : ℕ) (line : List ℕ) → said_in s n (take 160 line) ≡ said_in s n line
 said_in_cut Asking n line = ap opening (asked_cut line)
@@ -65,7 +65,7 @@ said_in_cut Closed n line = refl
 said_in_cut (Telling job) n line = said_for_cut job (one_more n) line
 
 ledger_in_cut : (s : Stage) (n m : ℕ) (line : List ℕ) → ledger_in s n m (take 160 line) ≡ ledger_in s n m line
-ledger_in_cut Asking n m line = ap (λ (w : Named). ledger (opened w) n m) (asked_cut line)
+ledger_in_cut Asking n m line = ap (λ (w : Option Edition). ledger (opened w) n m) (asked_cut line)
 ledger_in_cut Closed n m line = refl
 ledger_in_cut (Telling job) n m line = ap (λ (b : Bool). ledger (Telling job) (one_more n) (refused_after b m)) (refused_cut job line)
 

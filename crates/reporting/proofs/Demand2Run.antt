@@ -5,6 +5,7 @@
 --     any_pieces      so it is, in whatever pieces the input is fed
 --     fed_report      what calls of feed and a call of finish write, one after the other, is the report of all that they took, and what finish answers is
 --                     whether anything was refused
+use Rattle.std.specs.Prelude.{None, Option, Some}
 use mathlib.Core.Path.{◌≡◌, refl, sym, ap, ap₂, ◌∙◌}
 use mathlib.Core.Bool.{Bool, true, false, cond, ◌||◌}
 use mathlib.Core.List.{List, [], ◌∷◌, ◌++◌, append_assoc, append-nil, flatten}
@@ -14,8 +15,7 @@ use native.Mathlib.Omega.{arith}
 use borrow.Author.Tests.{lt-ltb, ltb-false}
 use lib.Dec.{eqb, ltb}
 use lib.ListN.{length, take, length-append}
-use Rattle.layout.specs.declared.Named.{Named}
-use Rattle.layout.specs.declared.Named.TheVariants.{Known, Unknown}
+use Rattle.layout.specs.declared.Edition.{Edition}
 use Rattle.wording.proofs.PutLaws.{front}
 use Rattle.recast_lines.specs.Sentences.{heading, not_held}
 use Rattle.reporting.specs.declared.Job.{Job}
@@ -161,14 +161,14 @@ closed_told [] n m = (refl, refl)
 closed_told (line ∷ lines) n m = closed_told lines n m
 
 -- what follows a first line that asks
-first_told : (w : Named) (lines : List (List ℕ)) → length lines < 2 ^ 64 → opening w ++ told_from (ledger (opened w) 0 0) lines ≡ recast_in w lines
-first_told (Known edition) lines h = ap (λ (t : List ℕ). heading edition ++ t) (records_told (Recast edition) lines 0 0 (omega arith) (omega arith))
-first_told Unknown lines h = rw (closed_told lines 0 0).0 (append-nil not_held)
+first_told : (w : Option Edition) (lines : List (List ℕ)) → length lines < 2 ^ 64 → opening w ++ told_from (ledger (opened w) 0 0) lines ≡ recast_in w lines
+first_told (Some edition) lines h = ap (λ (t : List ℕ). heading edition ++ t) (records_told (Recast edition) lines 0 0 (omega arith) (omega arith))
+first_told None lines h = rw (closed_told lines 0 0).0 (append-nil not_held)
 
-first_refused : (w : Named) (lines : List (List ℕ)) → has_refused (after_from (ledger (opened w) 0 0) lines) ≡ refused_in w lines
+first_refused : (w : Option Edition) (lines : List (List ℕ)) → has_refused (after_from (ledger (opened w) 0 0) lines) ≡ refused_in w lines
 unfolding has_refused
-first_refused (Known edition) lines = records_refused (Recast edition) lines 0 0
-first_refused Unknown lines = rw (closed_told lines 0 0).1
+first_refused (Some edition) lines = records_refused (Recast edition) lines 0 0
+first_refused None lines = rw (closed_told lines 0 0).1
 
 -- the lines of an input, from the stage that it begins in
 lines_told : (s : Stage) (lines : List (List ℕ)) → length lines < 2 ^ 64 → told_from (ledger s 0 0) lines ≡ report_on s lines

@@ -10,14 +10,13 @@ use lib.Dec.{eqb}
 use lib.ListN.{length, get_or, take, drop, length-drop}
 use lib.Seq.{get_or-drop, take_all, take-add, take-suc}
 use Rattle.octets.specs.Octets.{index_of, index_after}
-use Rattle.wording.specs.Puts.{Puts}
+use Rattle.wording.specs.declared.sheet.Sheet.{Sheet}
 use Rattle.report_lines.specs.Says.{record_most}
 use Rattle.reporting.specs.declared.Ledger.{Ledger}
 use Rattle.reporting.specs.declared.Run.{Run}
-use Rattle.reporting.specs.declared.Told.{Told}
 use Rattle.reporting.specs.Lines.{next_end}
 use Rattle.reporting.specs.Run.{State, state, ledger_after, said_of, kept, step, state_after, said_by}
-use Rattle.reporting.specs.FeedClauses.{view, Tells, Feeds}
+use Rattle.reporting.specs.FeedClauses.{view, Tells, Takes, Feeds}
 use Rattle.wording.proofs.PutLaws.{nothing, also}
 use Rattle.reporting.proofs.CutLaws.{kept_cut}
 use Rattle.reporting.proofs.RunLaws.{state_append, said_append}
@@ -58,22 +57,20 @@ found (b ∷ rest) h = by (eqb b 10) refl (found rest) h
     by true e there k = eqb-true b 10 e
     by false e there k = there (omega arith)
 
--- what is taken of the piece so far, and what stands where
-pub record SoFar (s : State) (piece before now held : List ℕ) (l : Ledger) (at written : ℕ) : Type 0 where
-  pub within : at ≤ length piece
-  pub room : written ≤ length before
-  pub long : length now ≡ length before
-  pub after : state_after s (take at piece) ≡ state l held
-  pub said : Puts (said_by s (take at piece)) 0 before now written
-
-pub so_far_none : (l : Ledger) (held piece before : List ℕ) → SoFar (state l held) piece before before held l 0 0
+-- nothing is taken of the piece
+pub takes_none : (run : Run) (piece : List ℕ) (before : Sheet) → Takes (view run) piece before run before 0
 unfolding state_after said_by
-so_far_none l held piece before =
-    record { within = omega arith; room = omega arith; long = refl; after = refl; said = nothing 0 before }
+takes_none run piece before = record { within = omega arith; after = refl; same_buffer = refl; same_length = refl; said = nothing before.end before.out.now }
 
 -- the bytes from `at` to the next line end, or to the end of the piece
-module _ {s : State} {piece before now held : List ℕ} {l : Ledger} {at written : ℕ} (f : SoFar s piece before now held l at written) (end : ℕ)
-    (e : end ≡ next_end piece at) (h : end ≤ length piece) (short : length held ≤ 160) where
+module _ {s : State} {piece : List ℕ} {before now : Sheet} {run : Run} {at : ℕ} (f : Takes s piece before run now at) (end : ℕ)
+    (e : end ≡ next_end piece at) (h : end ≤ length piece) (short : length run.held ≤ 160) where
+  abbrev l : Ledger
+  l = run.ledger
+
+  abbrev held : List ℕ
+  held = run.held
+
   abbrev rest : List ℕ
   rest = drop at piece
 
@@ -109,14 +106,8 @@ module _ {s : State} {piece before now held : List ℕ} {l : Ledger} {at written
       append-nil (said_by s (take at piece))
 
   -- the bytes are kept
-  pub so_far_kept : {more : List ℕ} → more ≡ take 160 (held ++ line) → SoFar s piece before now more l end written
-  so_far_kept {more} g = record {
-    within = h;
-    room = f.room;
-    long = f.long;
-    after = state_span ∙ ap (state l) (sym g);
-    said = rw said_span f.said;
-  }
+  pub takes_kept : {more : Run} → more.ledger ≡ l → more.held ≡ take 160 (held ++ line) → Takes s piece before more now end
+  takes_kept g k = record { within = h; after = state_span ∙ ap₂ state (sym g) (sym k); same_buffer = f.same_buffer; same_length = f.same_length; said = rw said_span f.said }
 
   -- the line ends here, and is told
   module _ (inside : end ≡ length piece → ⊥) where
@@ -142,26 +133,33 @@ module _ {s : State} {piece before now held : List ℕ} {l : Ledger} {at written
         ap (λ (t : List ℕ). t ++ (said_of l (take 160 (held ++ line)) ++ [])) said_span ∙
         ap (λ (t : List ℕ). said_by s (take at piece) ++ t) (append-nil _)
 
-    pub so_far_line : {more later : List ℕ} {told : Told} → Tells l (take 160 (held ++ line)) written now later told → length later ≡ length now →
-        more ≡ [] → told.end ≤ length before → SoFar s piece before later more told.ledger (end + 1) told.end
-    so_far_line {more} {later} {told} t g m k = record {
+    pub takes_line : {more : Run} {later : Sheet} → Tells l (take 160 (held ++ line)) now later more.ledger → more.held ≡ [] → Takes s piece before more later (end + 1)
+    takes_line {more} {later} t k = record {
       within = omega arith;
-      room = k;
-      long = g ∙ f.long;
-      after = state_line ∙ ap₂ state (sym t.next) (sym m);
-      said = rw said_line (also f.said t.said k);
+      after = state_line ∙ ap₂ state (sym t.next) (sym k);
+      same_buffer = t.said.same_buffer ∙ f.same_buffer;
+      same_length = t.said.same_length ∙ f.same_length;
+      said = rw said_line (also f.said t.said.puts (omega (arith, later.within, t.said.same_length, f.same_length)));
     }
 
 -- where it stops, all of the piece is taken, or too little room is left for another line
-pub feeds : (run : Run) {piece before now held : List ℕ} {l : Ledger} {at written : ℕ} → SoFar (view run) piece before now held l at written →
-    (at < length piece → length before < written + record_most) → Feeds run piece before now (record { run = record { ledger = l; held = held }; taken = at; written = written })
+pub feeds : {run last : Run} {piece after : List ℕ} (before now : Sheet) {at : ℕ} → before.end ≡ 0 → after ≡ now.out.now → Takes (view run) piece before last now at →
+    (at < length piece → length now.out.now < now.end + record_most) → Feeds run piece before.out.now after (record { run = last; taken = at; written = now.end })
 unfolding said_by
-feeds run {piece} {before} {now} {held} {l} {at} {written} f h =
-    record { within = f.within; room = f.room; state = sym f.after; said = f.said; stops = h; moves = by at refl }
+feeds {run} {piece = piece} before now {at} z e f h =
+    let said = rw z at f.said in
+    record {
+      within = f.within;
+      room = omega (arith, now.within, f.same_length);
+      state = sym f.after;
+      said = rw e said;
+      stops = λ k. omega (arith, h k, f.same_length);
+      moves = by at refl;
+    }
   where
-    by : (k : ℕ) → at ≡ k → record_most ≤ length before → 0 < length piece → 0 < at
-    by zero z r p =
-        let none : length (said_by (view run) (take at piece)) ≡ 0 = rw z in
+    by : (k : ℕ) → at ≡ k → record_most ≤ length before.out.now → 0 < length piece → 0 < at
+    by zero q r p =
+        let none : length (said_by (view run) (take at piece)) ≡ 0 = rw q in
         let full = h (omega arith) in
-        absurd (omega (arith, f.said.ends))
-    by (suc k) z r p = omega arith
+        absurd (omega (arith, f.said.ends, f.same_length))
+    by (suc k) q r p = omega arith

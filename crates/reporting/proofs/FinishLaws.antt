@@ -1,55 +1,55 @@
 -- The end of a run: the line that has no end, if there is one, what is said last, and whether anything was refused. Assumes nothing.
-use mathlib.Core.Path.{◌≡◌, refl, sym, ap, ◌∙◌}
+use mathlib.Core.Path.{◌≡◌, refl, ap, ◌∙◌}
 use mathlib.Core.Bool.{Bool}
 use mathlib.Core.List.{List, [], ◌∷◌, ◌++◌}
 use Prim.Native.Nat.{ℕ, ◌<◌, ◌≤◌}
 use native.Mathlib.Omega.{arith}
 use lib.ListN.{length}
-use Rattle.wording.specs.Puts.{Puts}
-use Rattle.wording.proofs.PutLaws.{also}
+use Rattle.wording.specs.declared.sheet.Sheet.{Sheet}
+use Rattle.wording.specs.Puts.{Adds}
+use Rattle.wording.proofs.PutLaws.{then, unchanged, within}
+use Rattle.report_lines.specs.Says.{line_most, record_most}
 use Rattle.reporting.specs.declared.Ledger.{Ledger}
 use Rattle.reporting.specs.declared.Run.{Run}
-use Rattle.reporting.specs.declared.Told.{Told}
-use Rattle.reporting.specs.Run.{state, ledger_after, said_of, last_words, has_refused, end_of, closing}
-use Rattle.reporting.specs.FeedClauses.{view}
-use Rattle.reporting.specs.FeedClauses.{Tells, Finishes, closing_most}
+use Rattle.reporting.specs.Run.{State, state, ledger_after, last_words, has_refused, end_with, end_of, rest_with, rest_said, closing_with, closing}
+use Rattle.reporting.specs.FeedClauses.{view, Tells, Finishes, closing_most}
 
 -- a buffer without room for the end is left as it is
 pub finish_short : (run : Run) (before : List ℕ) (b : Bool) → length before < closing_most → Finishes run before before (record { written = 0; refused = b })
 finish_short run before b h =
     record { room = omega arith; said = λ k. absurd (omega arith); refuses = λ k. absurd (omega arith); unsaid = λ k. (refl, refl) }
 
--- a line of which something is held is told at the end
-closing_line : (l : Ledger) (held : List ℕ) → (held ≡ [] → ⊥) →
-    (closing (state l held) ≡ said_of l held ++ last_words (ledger_after l held)) × (end_of (state l held) ≡ ledger_after l held)
-unfolding closing end_of
-closing_line l [] h = absurd (h refl)
-closing_line l (b ∷ held) h = (refl, refl)
+-- what is said at the end is what is said of the line that has no end, and what is said last
+closing_parts : (s : State) → closing s ≡ rest_said s ++ last_words (end_of s)
+unfolding closing rest_said end_of
+closing_parts s = by s.ledger s.held
+  where
+    by : (l : Ledger) (held : List ℕ) → closing_with l held ≡ rest_with l held ++ last_words (end_with l held)
+    by l [] = refl
+    by l (b ∷ held) = refl
 
-closing_none : (run : Run) → run.held ≡ [] → (closing (view run) ≡ last_words run.ledger) × (end_of (view run) ≡ run.ledger)
-unfolding closing end_of
-closing_none run e = (ap (λ (h : List ℕ). closing (state run.ledger h)) e, ap (λ (h : List ℕ). end_of (state run.ledger h)) e)
+-- the line that has no end, where there is none, and where there is one
+module _ (l : Ledger) where
+  pub rest_none : (held : List ℕ) (s : Sheet) → held ≡ [] → (l ≡ end_of (state l held)) × Adds (rest_said (state l held)) record_most s s
+  unfolding end_of rest_said
+  rest_none [] s e = (refl, within (omega arith) (unchanged s))
+  rest_none (b ∷ held) s e = absurd (cc)
 
--- the end of a run that holds nothing, and of one that does
-module _ (run : Run) {before after : List ℕ} {r : ℕ} {b : Bool} (room : closing_most ≤ length before) where
-  pub finish_none : run.held ≡ [] → Puts (last_words run.ledger) 0 before after r → b ≡ has_refused run.ledger → r ≤ length before →
-      Finishes run before after (record { written = r; refused = b })
-  finish_none e p q h = record {
-    room = h;
-    said = λ k. rw (closing_none run e).0 p;
-    refuses = λ k. q ∙ ap has_refused (sym (closing_none run e).1);
-    unsaid = λ k. absurd (omega arith);
-  }
+  pub rest_line : (held : List ℕ) {line : List ℕ} {before after : Sheet} {r : Ledger} → (held ≡ [] → ⊥) → line ≡ held → Tells l line before after r →
+      (r ≡ end_of (state l held)) × Adds (rest_said (state l held)) record_most before after
+  unfolding end_of rest_said
+  rest_line [] some e t = absurd (some refl)
+  rest_line (b ∷ held) some e t = (t.next ∙ ap (ledger_after l) e, rw e at t.said)
 
-  pub finish_line : {middle : List ℕ} {told : Told} → (run.held ≡ [] → ⊥) → Tells run.ledger run.held 0 before middle told →
-      Puts (last_words told.ledger) told.end middle after r → b ≡ has_refused told.ledger → r ≤ length before →
-      Finishes run before after (record { written = r; refused = b })
-  finish_line {middle} {told} some t p q h =
-      let line = closing_line run.ledger run.held some in
-      let last = rw t.next at p in
-      record {
-        room = h;
-        said = λ k. rw line.0 (also t.said last h);
-        refuses = λ k. q ∙ ap has_refused (t.next ∙ sym line.1);
-        unsaid = λ k. absurd (omega arith);
-      }
+-- the line that has no end is taken, and what is said last is put
+pub finished : (run : Run) {after : List ℕ} {before now last : Sheet} {l : Ledger} {b : Bool} → before.end ≡ 0 → closing_most ≤ length before.out.now → after ≡ last.out.now → l ≡ end_of (view run) →
+    Adds (rest_said (view run)) record_most before now → Adds (last_words l) line_most now last → b ≡ has_refused l →
+    Finishes run before.out.now after (record { written = last.end; refused = b })
+finished run {last = last} z room back e p q g =
+    let all = then p q in
+    record {
+      room = omega (arith, last.within, all.same_length);
+      said = λ k. rw (closing_parts (view run), ← e, ← z, back) all.puts;
+      refuses = λ k. g ∙ ap has_refused e;
+      unsaid = λ k. absurd (omega arith);
+    }

@@ -1,9 +1,9 @@
 -- The contracts of the run: what telling a line, feeding a piece and finishing answer, and what they say of the lent buffer. Assumes nothing.
 use Rattle.std.specs.Prelude.{ℕ, ◌+◌, ◌<◌, ◌≤◌, ◌≡◌, List, length, take}
-use Rattle.wording.specs.Puts.{Puts}
+use Rattle.wording.specs.declared.sheet.Sheet.{Sheet}
+use Rattle.wording.specs.Puts.{Puts, Adds}
 use Rattle.report_lines.specs.Says.{record_most}
 use Rattle.reporting.specs.declared.Ledger.{Ledger}
-use Rattle.reporting.specs.declared.Told.{Told}
 use Rattle.reporting.specs.declared.Run.{Run}
 use Rattle.reporting.specs.declared.Fed.{Fed}
 use Rattle.reporting.specs.declared.Finished.{Finished}
@@ -13,11 +13,18 @@ use Rattle.reporting.specs.Run.{ledger_after, said_of, state_after, said_by, end
 abbrev pub view : Run → State
 view run = state run.ledger run.held
 
--- a line is told: the ledger after it, and what is said of it
-pub record Tells (l : Ledger) (line : List ℕ) (at : ℕ) (before after : List ℕ) (r : Told) : Type 0 where
-  pub next : r.ledger ≡ ledger_after l line
-  pub said : Puts (said_of l line) at before after r.end
-  pub short : r.end ≤ at + record_most
+-- a line is told: the ledger after it, and what is said of it on the sheet
+pub record Tells (l : Ledger) (line : List ℕ) (before after : Sheet) (r : Ledger) : Type 0 where
+  pub next : r ≡ ledger_after l line
+  pub said : Adds (said_of l line) record_most before after
+
+-- some of a piece is taken, from its front on: what it has led to, and what is said of it on the sheet
+pub record Takes (first : State) (piece : List ℕ) (before : Sheet) (run : Run) (now : Sheet) (at : ℕ) : Type 0 where
+  pub within : at ≤ length piece
+  pub after : state_after first (take at piece) ≡ view run
+  pub same_buffer : now.out.ghost_name ≡ before.out.ghost_name
+  pub same_length : length now.out.now ≡ length before.out.now
+  pub said : Puts (said_by first (take at piece)) before.end before.out.now now.out.now now.end
 
 -- some of a piece is taken, from its front on, and what is said of it stands at the front of the buffer; it is all of the piece unless the buffer has no
 -- room left for what may be said of a record, and some of it where there was such room at all

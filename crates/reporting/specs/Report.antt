@@ -1,7 +1,6 @@
 -- The report of a whole input, by its job: what is said of each record, the line that a report begins with, and the last. Assumes nothing.
-use Rattle.std.specs.Prelude.{ℕ, ◌+◌, Bool, true, false, cond, ◌||◌, List, [], ◌∷◌, ◌++◌, eqb, length, get_or}
-use Rattle.layout.specs.declared.Named.{Named}
-use Rattle.layout.specs.declared.Named.TheVariants.{Known, Unknown}
+use Rattle.std.specs.Prelude.{ℕ, ◌+◌, Bool, true, false, cond, ◌||◌, List, [], ◌∷◌, ◌++◌, eqb, length, get_or, None, Option, Some}
+use Rattle.layout.specs.declared.Edition.{Edition}
 use Rattle.layout.specs.Editions.{edition_of}
 use Rattle.report_lines.specs.Sentences.{totals}
 use Rattle.check_lines.specs.Sentences.{check_said, check_refused}
@@ -34,20 +33,20 @@ any_refused job [] = false
 any_refused job (line ∷ lines) = refused_for job line || any_refused job lines
 
 -- the edition that the first line of the recast report's input asks for: '1', '3' or '4' alone
-unfoldable pub asked_by : List ℕ → Named
-asked_by line = cond (eqb (length line) 1) (edition_of (get_or line 0 0)) Unknown
+unfoldable pub asked_by : List ℕ → Option Edition
+asked_by line = cond (eqb (length line) 1) (edition_of (get_or line 0 0)) None
 
 -- the recast report on the lines after the first, by what the first asks for; and whether anything is refused
-abbrev pub recast_in : Named → List (List ℕ) → List ℕ
-recast_in Unknown lines = not_held
-recast_in (Known edition) lines = heading edition ++ records_from (Recast edition) 0 0 lines
+abbrev pub recast_in : Option Edition → List (List ℕ) → List ℕ
+recast_in None lines = not_held
+recast_in (Some edition) lines = heading edition ++ records_from (Recast edition) 0 0 lines
 
-abbrev pub refused_in : Named → List (List ℕ) → Bool
-refused_in Unknown lines = true
-refused_in (Known edition) lines = any_refused (Recast edition) lines
+abbrev pub refused_in : Option Edition → List (List ℕ) → Bool
+refused_in None lines = true
+refused_in (Some edition) lines = any_refused (Recast edition) lines
 
-abbrev pub asking : List (List ℕ) → Named
-asking [] = Unknown
+abbrev pub asking : List (List ℕ) → Option Edition
+asking [] = None
 asking (line ∷ lines) = asked_by line
 
 abbrev pub rest : List (List ℕ) → List (List ℕ)

@@ -1,7 +1,6 @@
 -- The run that makes a report, byte by byte: what is carried from a byte to the next, and what is said at each. Assumes nothing.
-use Rattle.std.specs.Prelude.{ℕ, ◌+◌, Bool, true, cond, List, [], ◌∷◌, ◌++◌, eqb, ltb, length}
-use Rattle.layout.specs.declared.Named.{Named}
-use Rattle.layout.specs.declared.Named.TheVariants.{Known, Unknown}
+use Rattle.std.specs.Prelude.{ℕ, ◌+◌, Bool, true, cond, List, [], ◌∷◌, ◌++◌, eqb, ltb, length, None, Option, Some}
+use Rattle.layout.specs.declared.Edition.{Edition}
 use Rattle.layout.specs.Editions.{longest_record}
 use Rattle.report_lines.specs.Sentences.{totals}
 use Rattle.recast_lines.specs.Sentences.{heading, not_held}
@@ -31,13 +30,13 @@ unfoldable pub one_more : ℕ → ℕ
 one_more n = cond (ltb n 18446744073709551615) (n + 1) n
 
 -- what a first line that asks leads to, and what is said of it
-abbrev pub opened : Named → Stage
-opened (Known edition) = Telling (Recast edition)
-opened Unknown = Closed
+abbrev pub opened : Option Edition → Stage
+opened (Some edition) = Telling (Recast edition)
+opened None = Closed
 
-abbrev pub opening : Named → List ℕ
-opening (Known edition) = heading edition
-opening Unknown = not_held
+abbrev pub opening : Option Edition → List ℕ
+opening (Some edition) = heading edition
+opening None = not_held
 
 -- the refused after a record
 abbrev pub refused_after : Bool → ℕ → ℕ
@@ -107,6 +106,14 @@ end_with l (b ∷ held) = ledger_after l (b ∷ held)
 
 unfoldable pub end_of : State → Ledger
 end_of s = end_with s.ledger s.held
+
+-- what is said of the line that has no end, if there is one
+abbrev pub rest_with : Ledger → List ℕ → List ℕ
+rest_with l [] = []
+rest_with l (b ∷ held) = said_of l (b ∷ held)
+
+unfoldable pub rest_said : State → List ℕ
+rest_said s = rest_with s.ledger s.held
 
 abbrev pub closing_with : Ledger → List ℕ → List ℕ
 closing_with l [] = last_words l

@@ -8,17 +8,17 @@
 mod ends;
 mod held;
 
-ghost use Rattle.std.specs.Prelude.{◌≡◌, [], ◌++◌, ◌+◌, ◌≤◌, length, take};
-ghost use Rattle.wording.specs.Puts.{Puts};
+ghost use Rattle.std.specs.Prelude.{◌≡◌, [], ◌++◌, ◌+◌, ◌<◌, ◌≤◌, length, take};
+ghost use Rattle.wording.specs.Puts.{HasRoom, Adds};
 ghost use Rattle.report_lines.specs.Says.{line_most, record_most, Says};
 ghost use Rattle.reporting.specs.Report.{said_for, refused_for, asked_by};
-ghost use Rattle.reporting.specs.Run.{start, ledger, one_more, refused_after, last_words, has_refused, held_most};
-ghost use Rattle.reporting.specs.FeedClauses.{view, Tells, Feeds, Finishes};
+ghost use Rattle.reporting.specs.Run.{start, last_words, rest_said, end_of, has_refused, held_most};
+ghost use Rattle.reporting.specs.FeedClauses.{view, Tells, Takes, Feeds, Finishes};
 
 use ends::line_end;
 use held::Held;
-use layout::{Edition, Named};
-use report_lines::Said;
+use layout::Edition;
+use wording::Sheet;
 
 // What is told of each record.
 #[derive(Clone, Copy)]
@@ -74,13 +74,6 @@ pub struct Finished {
     pub refused: bool,
 }
 
-// What a line leads to: the ledger after it, and the place after what is said of it.
-#[derive(Clone, Copy)]
-struct Told {
-    ledger: Ledger,
-    end: usize,
-}
-
 // The room that whatever a report says of a record has in the buffer.
 const RECORD_MOST: usize = 12288;
 
@@ -103,158 +96,165 @@ pub fn start(stage: Stage) -> Run
 
 // The edition that a first line asks for.
 #[tactic(auto, using(crate::proofs::TellLaws::asks), unfolding(crate::specs::Report::asked_by))]
-fn asked_by(line: &[u8]) -> Named
+fn asked_by(line: &[u8]) -> Option<Edition>
     ensures { result ≡ asked_by line.now }
 {
     match line {
         [digit] => Edition::of_digit(*digit),
-        _ => Named::Unknown,
+        _ => None,
     }
 }
 
-// Takes a first line that asks: says what it asks for, and answers the stage that it leads to.
-fn take_first(line: &[u8], before: Ledger, out: &mut [u8], at: usize) -> Told
-    requires { at + record_most ≤ length out.old }
-    ensures { Tells (ledger Stage.Asking before.records before.refused) line.now at out.old out.new result }
-{
-    match asked_by(line) {
-        Named::Known(edition) => Told {
-            ledger: Ledger {
-                stage: Stage::Telling(Job::Recast(edition)),
-                ..before
-            },
-            end: recast_lines::put_heading(out, at, edition),
-        },
-        Named::Unknown => Told {
-            ledger: Ledger {
-                stage: Stage::Closed,
-                ..before
-            },
-            end: recast_lines::put_not_held(out, at),
-        },
-    }
-}
-
-// Says of a record what the job has to say of it.
-fn tell(job: Job, line: &[u8], count: u64, out: &mut [u8], at: usize) -> Said
-    requires { at + record_most ≤ length out.old }
-    ensures { Says (said_for job count line.now) (refused_for job line.now) at out.old out.new result }
+// Says of a record what the job has to say of it, and answers whether the record is refused.
+fn tell(sheet: &mut Sheet<'_>, count: u64, line: &[u8], job: Job) -> bool
+    requires { HasRoom record_most sheet.old }
+    ensures { Says (said_for job count line.now) (refused_for job line.now) sheet.old sheet.new result }
 {
     match job {
-        Job::Check => check_lines::tell(line, count, out, at),
-        Job::Readings => reading_lines::tell(line, count, out, at),
-        Job::Recast(edition) => recast_lines::tell(line, edition, count, out, at),
+        Job::Check => check_lines::tell(sheet, count, line),
+        Job::Readings => reading_lines::tell(sheet, count, line),
+        Job::Recast(edition) => recast_lines::tell(sheet, count, line, edition),
     }
 }
 
-// Takes a record: says of it what the job has to say, and counts it. The last count has none after it.
-fn take_record(line: &[u8], job: Job, before: Ledger, out: &mut [u8], at: usize) -> Told
-    requires { at + record_most ≤ length out.old }
-    ensures { Tells (ledger (Stage.Telling job) before.records before.refused) line.now at out.old out.new result }
-{
-    let count = before.records.saturating_add(1);
-    let said = tell(job, line, count, out, at);
-    Told {
-        ledger: Ledger {
-            stage: Stage::Telling(job),
-            records: count,
-            refused: before.refused.saturating_add(u64::from(said.refused)),
-        },
-        end: said.end,
+impl Ledger {
+    // Takes a first line that asks: says what it asks for, and goes on to the stage that it leads to.
+    fn take_first(&mut self, sheet: &mut Sheet<'_>, line: &[u8])
+        requires asking { self.old.stage ≡ Stage.Asking }
+        requires room { HasRoom record_most sheet.old }
+        ensures { Tells self.old line.now sheet.old sheet.new self.new }
+    {
+        match asked_by(line) {
+            Some(edition) => {
+                recast_lines::put_heading(sheet, edition);
+                self.stage = Stage::Telling(Job::Recast(edition));
+            }
+            None => {
+                recast_lines::put_not_held(sheet);
+                self.stage = Stage::Closed;
+            }
+        }
+    }
+
+    // Takes a record: says of it what the job has to say, and counts it. The last count has none after it.
+    fn take_record(&mut self, sheet: &mut Sheet<'_>, line: &[u8], job: Job)
+        requires telling { self.old.stage ≡ Stage.Telling job }
+        requires room { HasRoom record_most sheet.old }
+        ensures { Tells self.old line.now sheet.old sheet.new self.new }
+    {
+        let count = self.records.saturating_add(1);
+        let is_refused = tell(sheet, count, line, job);
+        self.records = count;
+        self.refused = self.refused.saturating_add(u64::from(is_refused));
+    }
+
+    // Takes a line, by the stage that it finds.
+    fn take_line(&mut self, sheet: &mut Sheet<'_>, line: &[u8])
+        requires { HasRoom record_most sheet.old }
+        ensures { Tells self.old line.now sheet.old sheet.new self.new }
+    {
+        match self.stage {
+            Stage::Asking => self.take_first(sheet, line),
+            Stage::Closed => {}
+            Stage::Telling(job) => self.take_record(sheet, line, job),
+        }
+    }
+
+    // Puts what is said last, by the stage.
+    #[tactic(auto, using(crate::proofs::TellLaws::closed_last), unfolding(crate::specs::Run::last_words))]
+    fn put_last(&self, sheet: &mut Sheet<'_>)
+        requires { HasRoom line_most sheet.old }
+        ensures { Adds (last_words self.now) line_most sheet.old sheet.new }
+    {
+        match self.stage {
+            Stage::Asking => recast_lines::put_not_held(sheet),
+            Stage::Closed => {}
+            Stage::Telling(_) => report_lines::put_totals(sheet, self.records, self.refused),
+        }
+    }
+
+    // Was anything refused? A first line that asks for no edition that is held is a refusal too.
+    #[tactic(auto, unfolding(crate::specs::Run::has_refused))]
+    fn has_refused(&self) -> bool
+        ensures { result ≡ has_refused self.now }
+    {
+        match self.stage {
+            Stage::Asking | Stage::Closed => true,
+            Stage::Telling(_) => 0 < self.refused,
+        }
     }
 }
 
-// Takes a line, by the stage that it finds.
-fn take_line(line: &[u8], ledger: Ledger, out: &mut [u8], at: usize) -> Told
-    requires { at + record_most ≤ length out.old }
-    ensures { Tells ledger line.now at out.old out.new result }
-{
-    match ledger.stage {
-        Stage::Asking => take_first(line, ledger, out, at),
-        Stage::Closed => Told { ledger, end: at },
-        Stage::Telling(job) => take_record(line, job, ledger, out, at),
+impl Run {
+    // Takes the line that ends after these bytes, of which nothing is held then. A line that lies wholly in
+    // the piece is taken as it lies there.
+    fn take_ended(&mut self, sheet: &mut Sheet<'_>, bytes: &[u8])
+        requires { HasRoom record_most sheet.old }
+        ensures tells { Tells self.old.ledger (take held_most (self.old.held ++ bytes.now)) sheet.old sheet.new self.new.ledger }
+        ensures ended { self.new.held ≡ [] }
+        ensures short { length self.old.held ≤ held_most }
+    {
+        if self.held.is_empty() {
+            return self.ledger.take_line(sheet, bytes);
+        }
+        self.held.hold(bytes);
+        self.ledger.take_line(sheet, self.held.as_slice());
+        self.held.clear();
     }
-}
 
-// Takes the line that ends after these bytes, of which nothing is held then. A line that lies wholly in the
-// piece is taken as it lies there.
-fn take_ended(held: &mut Held, bytes: &[u8], ledger: Ledger, out: &mut [u8], at: usize) -> Told
-    requires { at + record_most ≤ length out.old }
-    ensures tells { Tells ledger (take held_most (held.old ++ bytes.now)) at out.old out.new result }
-    ensures ended { held.new ≡ [] }
-    ensures short { length held.old ≤ held_most }
-{
-    if held.is_empty() {
-        return take_line(bytes, ledger, out, at);
+    // Takes a piece of the input from its front on, line after line. It stops early only where the sheet has
+    // no room left for what may be said of a record, and answers how many bytes are taken.
+    fn take(&mut self, sheet: &mut Sheet<'_>, piece: &[u8]) -> usize
+        ensures takes { Takes (view self.old) piece.now sheet.old self.new sheet.new result }
+        ensures stops { result < length piece.now → length sheet.new.out.now < sheet.new.end + record_most }
+    {
+        let mut at = 0;
+        while at < piece.len() {
+            if sheet.out.len() - sheet.end < RECORD_MOST {
+                break;
+            }
+            let end = line_end(piece, at);
+            if end == piece.len() {
+                self.held.hold(&piece[at..end]);
+                at = end;
+            } else {
+                let next = end + 1;
+                self.take_ended(sheet, &piece[at..end]);
+                at = next;
+            }
+        }
+        at
     }
-    held.hold(bytes);
-    let told = take_line(held.as_slice(), ledger, out, at);
-    held.clear();
-    told
-}
 
-// Puts what is said last, by the stage.
-#[tactic(auto, using(wording::proofs::PutLaws::nothing), unfolding(crate::specs::Run::last_words))]
-fn put_last(ledger: Ledger, out: &mut [u8], at: usize) -> usize
-    requires { at + line_most ≤ length out.old }
-    ensures puts { Puts (last_words ledger) at out.old out.new result }
-    ensures upper_bound { result ≤ at + line_most }
-{
-    match ledger.stage {
-        Stage::Asking => recast_lines::put_not_held(out, at),
-        Stage::Closed => at,
-        Stage::Telling(_) => report_lines::put_totals(out, at, ledger.records, ledger.refused),
-    }
-}
-
-// Was anything refused? A first line that asks for no edition that is held is a refusal too.
-#[tactic(auto, unfolding(crate::specs::Run::has_refused))]
-fn has_refused(ledger: Ledger) -> bool
-    ensures { result ≡ has_refused ledger }
-{
-    match ledger.stage {
-        Stage::Asking | Stage::Closed => true,
-        Stage::Telling(_) => 0 < ledger.refused,
+    // Takes the line that has no end, if there is one.
+    fn take_rest(&mut self, sheet: &mut Sheet<'_>)
+        requires { HasRoom record_most sheet.old }
+        ensures next { self.new.ledger ≡ end_of (view self.old) }
+        ensures said { Adds (rest_said (view self.old)) record_most sheet.old sheet.new }
+    {
+        if !self.held.is_empty() {
+            self.ledger.take_line(sheet, self.held.as_slice());
+        }
     }
 }
 
 // Feeds a piece of the input to a run: line after line is taken, and what is said is written to the
 // front of `out`. It stops early only where `out` has no room left for what may be said of a record.
-pub fn feed(run: Run, piece: &[u8], out: &mut [u8]) -> Fed
+pub fn feed(mut run: Run, piece: &[u8], out: &mut [u8]) -> Fed
     ensures { Feeds run piece.now out.old out.new result }
 {
-    let Run {
-        mut ledger,
-        mut held,
-    } = run;
-    let mut at = 0;
-    let mut written = 0;
-    while at < piece.len() {
-        if out.len() - written < RECORD_MOST {
-            break;
-        }
-        let end = line_end(piece, at);
-        if end == piece.len() {
-            held.hold(&piece[at..end]);
-            at = end;
-        } else {
-            let next = end + 1;
-            let told = take_ended(&mut held, &piece[at..end], ledger, out, written);
-            ledger = told.ledger;
-            written = told.end;
-            at = next;
-        }
-    }
+    let mut sheet = Sheet { out, end: 0 };
+    let taken = run.take(&mut sheet, piece);
     Fed {
-        run: Run { ledger, held },
-        taken: at,
-        written,
+        run,
+        taken,
+        written: sheet.end,
     }
 }
 
 // Finishes a run at the end of its input: tells the line that has no end, if there is one, and what is
 // said last. Where `out` has fewer than `CLOSING_MOST` bytes nothing is written.
-pub fn finish(run: Run, out: &mut [u8]) -> Finished
+pub fn finish(mut run: Run, out: &mut [u8]) -> Finished
     ensures { Finishes run out.old out.new result }
 {
     if out.len() < CLOSING_MOST {
@@ -263,16 +263,11 @@ pub fn finish(run: Run, out: &mut [u8]) -> Finished
             refused: true,
         };
     }
-    if run.held.is_empty() {
-        return Finished {
-            written: put_last(run.ledger, out, 0),
-            refused: has_refused(run.ledger),
-        };
-    }
-    let told = take_line(run.held.as_slice(), run.ledger, out, 0);
-    let last = told.ledger;
+    let mut sheet = Sheet { out, end: 0 };
+    run.take_rest(&mut sheet);
+    run.ledger.put_last(&mut sheet);
     Finished {
-        written: put_last(last, out, told.end),
-        refused: has_refused(last),
+        written: sheet.end,
+        refused: run.ledger.has_refused(),
     }
 }

@@ -1,8 +1,0 @@
--- `reporting::take_record` meets its contract. Assumes nothing.
-use native.Mathlib.Omega.{arith}
-use Rattle.reporting.proofs.TellLaws.{record_tells}
-use Rattle.reporting.proofs.take_record.Goals as goal
-
-pub returns : goal.returns
-returns c =
-    record_tells _ _ _ _ _ c.tell-said.result _ (omega arith) (omega arith) c.saturating_add-count.ensures (omega arith) c.tell-said.ensures

@@ -9,7 +9,8 @@ ghost use Rattle.places.specs.Column12.{is_first};
 ghost use Rattle.meanings.specs.Kept.{lost_at};
 ghost use Rattle.blanking.specs.LostBytes.{leaves, codes_lost, country_lost, version_lost, flags_lost, later_lost, named};
 
-use crate::{is_change, is_in, is_leaving};
+use crate::spans::Span;
+use crate::{is_change, is_leaving};
 use element_sets::ElementSet;
 use layout::page;
 use places::column_12::Way;
@@ -29,29 +30,31 @@ fn moved(w: u8, by: u64) -> u64
     u64::from(w) << by
 }
 
-// The bit of an element whose first byte is one from low to high.
-fn name_one(line: &[u8], e: usize, low: u8, high: u8, mask: u64) -> u64
-    requires { (start_of e < length line.now) × (low ≤ high) }
-    ensures { result ≡ cond (between low high (first_byte e line.now)) mask 0 }
+// The bit of an element whose first byte is one of those given.
+fn name_one(line: &[u8], e: usize, bytes: Span, mask: u64) -> u64
+    requires { start_of e < length line.now }
+    ensures { result ≡ cond (between bytes.0 bytes.1 (first_byte e line.now)) mask 0 }
 {
-    if is_in(page::first_byte(line, e), low, high) {
+    if bytes.holds(page::first_byte(line, e)) {
         mask
     } else {
         0
     }
 }
 
-// The bits of the eight elements from e on whose first bytes are from low to high.
-fn name_eight(line: &[u8], e: usize, low: u8, high: u8) -> u8
-    requires { ((1 ≤ e) × (e ≤ 94)) × ((start_of (e + 8) ≤ length line.now) × (low ≤ high)) }
-    ensures { result ≡ bits (λ k. between low high (first_byte k line.now)) e 8 }
+// The bits of the eight elements from e on whose first bytes are among those given.
+fn name_eight(line: &[u8], e: usize, bytes: Span) -> u8
+    requires { ((1 ≤ e) × (e ≤ 94)) × (start_of (e + 8) ≤ length line.now) }
+    ensures { result ≡ bits (λ k. between bytes.0 bytes.1 (first_byte k line.now)) e 8 }
 {
     let mut w: u8 = 0;
     for k in 0..8 {
-        w |= bit(is_in(page::first_byte(line, e + k), low, high), 1 << k);
+        w |= bit(bytes.holds(page::first_byte(line, e + k)), 1 << k);
     }
     w
 }
+
+// The elements and their bytes are those of lib.rt, which says why they stand twice.
 
 // Elements 40 and 41.
 fn name_codes(line: &[u8], changed: bool) -> u64
@@ -61,8 +64,11 @@ fn name_codes(line: &[u8], changed: bool) -> u64
     if !changed {
         return 0;
     }
-    let source = name_one(line, 40, b'1', b'1', 1 << 39) | name_one(line, 40, b'4', b'4', 1 << 39);
-    source | name_one(line, 41, b'4', b'4', 1 << 40) | name_one(line, 41, b'7', b'9', 1 << 40)
+    let source = name_one(line, 40, Span(b'1', b'1'), 1 << 39)
+        | name_one(line, 40, Span(b'4', b'4'), 1 << 39);
+    source
+        | name_one(line, 41, Span(b'4', b'4'), 1 << 40)
+        | name_one(line, 41, Span(b'7', b'9'), 1 << 40)
 }
 
 // Element 43.
@@ -73,7 +79,7 @@ fn name_country(line: &[u8], crossing: bool) -> u64
     if !crossing {
         return 0;
     }
-    name_one(line, 43, 33, 126, 1 << 42)
+    name_one(line, 43, Span(33, 126), 1 << 42)
 }
 
 // Element 64.
@@ -84,7 +90,7 @@ fn name_version(line: &[u8], back: bool) -> u64
     if !back {
         return 0;
     }
-    name_one(line, 64, b'9', b'9', 1 << 63) | name_one(line, 64, b'A', b'A', 1 << 63)
+    name_one(line, 64, Span(b'9', b'9'), 1 << 63) | name_one(line, 64, Span(b'A', b'A'), 1 << 63)
 }
 
 // Elements 66 to 85.
@@ -95,9 +101,9 @@ fn name_flags(line: &[u8], back: bool) -> u64
     if !back {
         return 0;
     }
-    let first = moved(name_eight(line, 66, b'6', b'7'), 1);
-    let second = moved(name_eight(line, 74, b'6', b'7'), 9);
-    first | second | moved(name_eight(line, 78, b'6', b'7'), 13)
+    let first = moved(name_eight(line, 66, Span(b'6', b'7')), 1);
+    let second = moved(name_eight(line, 74, Span(b'6', b'7')), 9);
+    first | second | moved(name_eight(line, 78, Span(b'6', b'7')), 13)
 }
 
 // Elements 86 to 101 in a target that has them.
@@ -108,7 +114,8 @@ fn name_later(line: &[u8], back: bool) -> u64
     if !back {
         return 0;
     }
-    name_one(line, 86, b'6', b'6', 1 << 21) | moved(name_eight(line, 94, b'6', b'7'), 29)
+    name_one(line, 86, Span(b'6', b'6'), 1 << 21)
+        | moved(name_eight(line, 94, Span(b'6', b'7')), 29)
 }
 
 // Elements 86 to 101 in a target that does not have them.
@@ -116,7 +123,7 @@ fn name_filled(line: &[u8]) -> u64
     requires { longest_record ≤ length line.now }
     ensures { result ≡ bits (named (later_lost true false) line.now) 65 37 }
 {
-    moved(name_eight(line, 86, 33, 126), 21) | moved(name_eight(line, 94, 33, 126), 29)
+    moved(name_eight(line, 86, Span(33, 126)), 21) | moved(name_eight(line, 94, Span(33, 126)), 29)
 }
 
 // Elements 86 to 101, which a record of edition 1 does not have.

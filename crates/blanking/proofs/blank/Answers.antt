@@ -18,8 +18,8 @@ overflow_sub-start_of c = rises c
 
 pub blank_run-requires : goal.blank_run-requires
 blank_run-requires c =
-    (omega (arith, rises c, c.start_of.ensures), c.requires.1.1)
+    omega (arith, rises c, c.start_of.ensures)
 
 pub returns : goal.returns
 returns c =
-    c.blank_run.ensures ∙ as_run c.args.first c.args.last c.args.low c.args.high c.requires.0.0 _ _ _ c.start_of-at.ensures (ap (λ (n : ℕ). n - c.start_of-at.result) c.start_of.ensures)
+    c.blank_run.ensures ∙ as_run c.args.first c.args.last c.args.bytes.0 c.args.bytes.1 c.requires.0.0 _ _ _ c.start_of-at.ensures (ap (λ (n : ℕ). n - c.start_of-at.result) c.start_of.ensures)

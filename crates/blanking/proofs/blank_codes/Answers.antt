@@ -13,16 +13,16 @@ unfolding codes_lost
 returns-then-not-changed c = idle codes_lost (λ at b. refl) c.args.changed c.if-not-changed.true-raw _
 
 pub blank-requires : goal.blank-requires
-blank-requires c = ((lit≤ tt, omega (arith, start_shared 41 (lit≤ tt))), (lit≤ tt, lit≤ tt))
+blank-requires c = ((lit≤ tt, omega (arith, start_shared 41 (lit≤ tt))), lit≤ tt)
 
 pub blank-requires-2 : goal.blank-requires-2
-blank-requires-2 c = ((lit≤ tt, omega (arith, start_shared 41 (lit≤ tt))), (lit≤ tt, lit≤ tt))
+blank-requires-2 c = ((lit≤ tt, omega (arith, start_shared 41 (lit≤ tt))), lit≤ tt)
 
 pub blank-requires-3 : goal.blank-requires-3
-blank-requires-3 c = ((lit≤ tt, omega (arith, start_shared 42 (lit≤ tt))), (lit≤ tt, lit≤ tt))
+blank-requires-3 c = ((lit≤ tt, omega (arith, start_shared 42 (lit≤ tt))), lit≤ tt)
 
 pub blank-requires-4 : goal.blank-requires-4
-blank-requires-4 c = ((lit≤ tt, omega (arith, start_shared 42 (lit≤ tt))), (lit≤ tt, lit≤ tt))
+blank-requires-4 c = ((lit≤ tt, omega (arith, start_shared 42 (lit≤ tt))), lit≤ tt)
 
 pub returns : goal.returns
 unfolding codes_lost

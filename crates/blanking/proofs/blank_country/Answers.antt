@@ -12,7 +12,7 @@ unfolding country_lost
 returns-then-not-crossing c = idle country_lost (λ at b. refl) c.args.crossing c.if-not-crossing.true-raw _
 
 pub blank-requires : goal.blank-requires
-blank-requires c = ((lit≤ tt, omega (arith, start_shared 44 (lit≤ tt))), (lit≤ tt, lit≤ tt))
+blank-requires c = ((lit≤ tt, omega (arith, start_shared 44 (lit≤ tt))), lit≤ tt)
 
 pub returns : goal.returns
 unfolding country_lost

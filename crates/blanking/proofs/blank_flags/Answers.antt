@@ -13,13 +13,13 @@ unfolding flags_lost
 returns-then-not-back c = idle flags_lost (λ at b. refl) c.args.back c.if-not-back.true-raw _
 
 pub blank-requires : goal.blank-requires
-blank-requires c = ((lit≤ tt, omega (arith, start_shared 74 (lit≤ tt))), (lit≤ tt, lit≤ tt))
+blank-requires c = ((lit≤ tt, omega (arith, start_shared 74 (lit≤ tt))), lit≤ tt)
 
 pub blank-requires-2 : goal.blank-requires-2
-blank-requires-2 c = ((lit≤ tt, omega (arith, start_shared 82 (lit≤ tt))), (lit≤ tt, lit≤ tt))
+blank-requires-2 c = ((lit≤ tt, omega (arith, start_shared 82 (lit≤ tt))), lit≤ tt)
 
 pub blank-requires-3 : goal.blank-requires-3
-blank-requires-3 c = ((lit≤ tt, omega (arith, start_shared 86 (lit≤ tt))), (lit≤ tt, lit≤ tt))
+blank-requires-3 c = ((lit≤ tt, omega (arith, start_shared 86 (lit≤ tt))), lit≤ tt)
 
 pub returns : goal.returns
 unfolding flags_lost

@@ -13,10 +13,10 @@ unfolding later_lost
 returns-then-not-back c = idle (later_lost false) (λ at b. refl) c.args.back c.if-not-back.true-raw _
 
 pub blank-requires : goal.blank-requires
-blank-requires c = ((lit≤ tt, omega (arith, start_below 87 (lit≤ tt))), (lit≤ tt, lit≤ tt))
+blank-requires c = ((lit≤ tt, omega (arith, start_below 87 (lit≤ tt))), lit≤ tt)
 
 pub blank-requires-2 : goal.blank-requires-2
-blank-requires-2 c = ((lit≤ tt, omega (arith, start_below 102 (lit≤ tt))), (lit≤ tt, lit≤ tt))
+blank-requires-2 c = ((lit≤ tt, omega (arith, start_below 102 (lit≤ tt))), lit≤ tt)
 
 pub returns : goal.returns
 unfolding later_lost

@@ -7,4 +7,4 @@ use Rattle.blanking.proofs.blank_run.Given as goal
 -- the row with the columns so far in their place
 abbrev pub invariant-loop-b : goal.invariant-loop-b
 invariant-loop-b l =
-    put_mid l.at (l.at + l.n - l.at) l.fn.row l.b-items ≡ blanked_by (run l.at l.b-index l.low l.high) l.fn.row
+    put_mid l.at (l.at + l.n - l.at) l.fn.row l.b-items ≡ blanked_by (run l.at l.b-index l.bytes.0 l.bytes.1) l.fn.row

@@ -12,10 +12,10 @@ unfolding version_lost
 returns-then-not-back c = idle version_lost (λ at b. refl) c.args.back c.if-not-back.true-raw _
 
 pub blank-requires : goal.blank-requires
-blank-requires c = ((lit≤ tt, omega (arith, start_shared 65 (lit≤ tt))), (lit≤ tt, lit≤ tt))
+blank-requires c = ((lit≤ tt, omega (arith, start_shared 65 (lit≤ tt))), lit≤ tt)
 
 pub blank-requires-2 : goal.blank-requires-2
-blank-requires-2 c = ((lit≤ tt, omega (arith, start_shared 65 (lit≤ tt))), (lit≤ tt, lit≤ tt))
+blank-requires-2 c = ((lit≤ tt, omega (arith, start_shared 65 (lit≤ tt))), lit≤ tt)
 
 pub returns : goal.returns
 unfolding version_lost

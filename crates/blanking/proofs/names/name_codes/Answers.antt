@@ -13,16 +13,16 @@ unfolding codes_lost
 returns-then-not-changed c = none_named codes_lost (λ at b. refl) c.args.changed c.if-not-changed.true-raw c.args.line.now 1 64
 
 pub name_one-requires : goal.name_one-requires
-name_one-requires c = (omega (arith, begins One 40 (lit≤ tt) (lit≤ tt)), lit≤ tt)
+name_one-requires c = omega (arith, begins One 40 (lit≤ tt) (lit≤ tt))
 
 pub name_one-requires-2 : goal.name_one-requires-2
-name_one-requires-2 c = (omega (arith, begins One 40 (lit≤ tt) (lit≤ tt)), lit≤ tt)
+name_one-requires-2 c = omega (arith, begins One 40 (lit≤ tt) (lit≤ tt))
 
 pub name_one-requires-3 : goal.name_one-requires-3
-name_one-requires-3 c = (omega (arith, begins One 41 (lit≤ tt) (lit≤ tt)), lit≤ tt)
+name_one-requires-3 c = omega (arith, begins One 41 (lit≤ tt) (lit≤ tt))
 
 pub name_one-requires-4 : goal.name_one-requires-4
-name_one-requires-4 c = (omega (arith, begins One 41 (lit≤ tt) (lit≤ tt)), lit≤ tt)
+name_one-requires-4 c = omega (arith, begins One 41 (lit≤ tt) (lit≤ tt))
 
 pub returns : goal.returns
 unfolding codes_lost

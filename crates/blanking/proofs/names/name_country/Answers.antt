@@ -13,7 +13,7 @@ unfolding country_lost
 returns-then-not-crossing c = none_named country_lost (λ at b. refl) c.args.crossing c.if-not-crossing.true-raw c.args.line.now 1 64
 
 pub name_one-requires : goal.name_one-requires
-name_one-requires c = (omega (arith, begins One 43 (lit≤ tt) (lit≤ tt)), lit≤ tt)
+name_one-requires c = omega (arith, begins One 43 (lit≤ tt) (lit≤ tt))
 
 pub returns : goal.returns
 unfolding country_lost

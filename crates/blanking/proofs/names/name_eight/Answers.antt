@@ -1,5 +1,5 @@
 -- `blanking::names::name_eight` meets its contract. Assumes nothing.
-use mathlib.Core.Path.{◌≡◌, refl, ap, ◌∙◌}
+use mathlib.Core.Path.{refl, ap, ◌∙◌}
 use Prim.Native.Nat.{◌+◌}
 use native.Mathlib.Omega.{arith}
 use Rattle.text.specs.Bytes.{between}
@@ -21,11 +21,5 @@ first_byte-requires c =
 pub loop-k-preserved : goal.loop-k-preserved
 loop-k-preserved c =
     let args = c.args in
-    word_on (λ j. between args.low args.high (first_byte j args.line.now)) args.e _ _ c.loop-k.invariant _
-    (c.is_in.ensures ∙ ap (between args.low args.high) c.first_byte.ensures) _ c.bit-w.ensures (omega arith)
-
-pub returns : goal.returns
-returns c =
-    let args = c.args in
-    let all : c.loop-k.k ≡ 8 = omega arith in
-    c.loop-k.invariant ∙ ap (bits (λ j. between args.low args.high (first_byte j args.line.now)) args.e) all
+    word_on (λ j. between args.bytes.0 args.bytes.1 (first_byte j args.line.now)) args.e _ _ c.loop-k.invariant _
+    (c.holds.ensures ∙ ap (between args.bytes.0 args.bytes.1) c.first_byte.ensures) _ c.bit-w.ensures (omega arith)

@@ -5,4 +5,4 @@ use Rattle.layout.specs.Page.{first_byte}
 use Rattle.blanking.proofs.names.name_eight.Given as goal
 
 abbrev pub invariant-loop-k : goal.invariant-loop-k
-invariant-loop-k l = l.w ≡ bits (λ j. between l.low l.high (first_byte j l.line)) l.e l.k
+invariant-loop-k l = l.w ≡ bits (λ j. between l.bytes.0 l.bytes.1 (first_byte j l.line)) l.e l.k

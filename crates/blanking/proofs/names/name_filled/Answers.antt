@@ -7,10 +7,10 @@ use Rattle.blanking.proofs.NameLaws.{joined, eight_word}
 use Rattle.blanking.proofs.names.name_filled.Goals as goal
 
 pub name_eight-requires : goal.name_eight-requires
-name_eight-requires c = ((lit≤ tt, lit≤ tt), (omega (arith, start_below 94 (lit≤ tt)), lit≤ tt))
+name_eight-requires c = ((lit≤ tt, lit≤ tt), omega (arith, start_below 94 (lit≤ tt)))
 
 pub name_eight-requires-2 : goal.name_eight-requires-2
-name_eight-requires-2 c = ((lit≤ tt, lit≤ tt), (omega (arith, start_below 102 (lit≤ tt)), lit≤ tt))
+name_eight-requires-2 c = ((lit≤ tt, lit≤ tt), omega (arith, start_below 102 (lit≤ tt)))
 
 pub returns : goal.returns
 unfolding later_lost

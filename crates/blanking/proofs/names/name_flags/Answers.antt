@@ -12,13 +12,13 @@ unfolding flags_lost
 returns-then-not-back c = none_named flags_lost (λ at b. refl) c.args.back c.if-not-back.true-raw c.args.line.now 65 37
 
 pub name_eight-requires : goal.name_eight-requires
-name_eight-requires c = ((lit≤ tt, lit≤ tt), (omega (arith, start_shared 74 (lit≤ tt)), lit≤ tt))
+name_eight-requires c = ((lit≤ tt, lit≤ tt), omega (arith, start_shared 74 (lit≤ tt)))
 
 pub name_eight-requires-2 : goal.name_eight-requires-2
-name_eight-requires-2 c = ((lit≤ tt, lit≤ tt), (omega (arith, start_shared 82 (lit≤ tt)), lit≤ tt))
+name_eight-requires-2 c = ((lit≤ tt, lit≤ tt), omega (arith, start_shared 82 (lit≤ tt)))
 
 pub name_eight-requires-3 : goal.name_eight-requires-3
-name_eight-requires-3 c = ((lit≤ tt, lit≤ tt), (omega (arith, start_shared 86 (lit≤ tt)), lit≤ tt))
+name_eight-requires-3 c = ((lit≤ tt, lit≤ tt), omega (arith, start_shared 86 (lit≤ tt)))
 
 pub returns : goal.returns
 unfolding flags_lost

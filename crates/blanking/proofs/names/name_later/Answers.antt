@@ -15,10 +15,10 @@ unfolding later_lost
 returns-then-not-back c = none_named (later_lost false) (λ at b. refl) c.args.back c.if-not-back.true-raw c.args.line.now 65 37
 
 pub name_one-requires : goal.name_one-requires
-name_one-requires c = (omega (arith, begins Three 86 (lit≤ tt) (lit≤ tt)), lit≤ tt)
+name_one-requires c = omega (arith, begins Three 86 (lit≤ tt) (lit≤ tt))
 
 pub name_eight-requires : goal.name_eight-requires
-name_eight-requires c = ((lit≤ tt, lit≤ tt), (omega (arith, start_below 102 (lit≤ tt)), lit≤ tt))
+name_eight-requires c = ((lit≤ tt, lit≤ tt), omega (arith, start_below 102 (lit≤ tt)))
 
 pub returns : goal.returns
 unfolding later_lost

@@ -13,10 +13,10 @@ unfolding version_lost
 returns-then-not-back c = none_named version_lost (λ at b. refl) c.args.back c.if-not-back.true-raw c.args.line.now 1 64
 
 pub name_one-requires : goal.name_one-requires
-name_one-requires c = (omega (arith, begins One 64 (lit≤ tt) (lit≤ tt)), lit≤ tt)
+name_one-requires c = omega (arith, begins One 64 (lit≤ tt) (lit≤ tt))
 
 pub name_one-requires-2 : goal.name_one-requires-2
-name_one-requires-2 c = (omega (arith, begins One 64 (lit≤ tt) (lit≤ tt)), lit≤ tt)
+name_one-requires-2 c = omega (arith, begins One 64 (lit≤ tt) (lit≤ tt))
 
 pub returns : goal.returns
 unfolding version_lost

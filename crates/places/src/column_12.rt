@@ -97,10 +97,12 @@ fn is_plain(latitude: u32, longitude: u32) -> bool
 fn quadrant_of(south: bool, west: bool) -> u8
     ensures { result ≡ quadrant_of south west }
 {
-    if south {
-        return if west { b'5' } else { b'3' };
+    match (south, west) {
+        (false, false) => b'1',
+        (true, false) => b'3',
+        (true, true) => b'5',
+        (false, true) => b'7',
     }
-    if west { b'7' } else { b'1' }
 }
 
 // The octant of two hemispheres, past 90 degrees or not.
@@ -118,20 +120,24 @@ fn octant_of(far: bool, south: bool, west: bool) -> u8
 fn near_octant(south: bool, west: bool) -> u8
     ensures { result ≡ near_octant south west }
 {
-    if south {
-        return if west { b'5' } else { b'8' };
+    match (south, west) {
+        (false, false) => b'3',
+        (true, false) => b'8',
+        (true, true) => b'5',
+        (false, true) => b'0',
     }
-    if west { b'0' } else { b'3' }
 }
 
 // The octant of two hemispheres past 90 degrees.
 fn far_octant(south: bool, west: bool) -> u8
     ensures { result ≡ far_octant south west }
 {
-    if south {
-        return if west { b'6' } else { b'7' };
+    match (south, west) {
+        (false, false) => b'2',
+        (true, false) => b'7',
+        (true, true) => b'6',
+        (false, true) => b'1',
     }
-    if west { b'1' } else { b'2' }
 }
 
 // The digit of an edition for a plain place.

@@ -53,13 +53,13 @@ fn is_west(edition: Edition, digit: u64) -> bool
 }
 
 // Does the longitude lie in the octant's range?
+#[tactic(auto, unfolding(crate::specs::Places::octant_fits))]
 pub fn octant_fits(octant: u32, longitude: u32) -> bool
     ensures { result ≡ octant_fits octant longitude }
 {
-    if text::is_among(octant, 0, 3, 5, 8) {
-        longitude <= 900
-    } else {
-        900 <= longitude
+    match octant {
+        0 | 3 | 5 | 8 => longitude <= 900,
+        _ => 900 <= longitude,
     }
 }
 

@@ -25,6 +25,6 @@ impl Span {
     pub fn holds(self, b: u8) -> bool
         ensures { result ≡ between self.0 self.1 b }
     {
-        faults::strays(b, self.0, self.1) == 0
+        !faults::strays(b, self.0, self.1)
     }
 }

@@ -1,20 +1,17 @@
 -- From sixteen columns against rows of characters to columns of the page, where the rows are the page's. Assumes nothing.
 use mathlib.Core.Path.{◌≡◌, refl, sym, ap, ◌∙◌, subst}
-use mathlib.Core.Bool.{Bool, true, false, not, beq}
+use mathlib.Core.Bool.{Bool, true, false, not, ◌||◌, beq}
 use mathlib.Core.List.{List, map}
 use Prim.Native.Nat.{ℕ, ◌+◌, ◌-◌, ◌<◌, ◌≤◌}
 use native.Mathlib.Nat.{le_refl}
 use native.Mathlib.Omega.{arith}
 use borrow.Author.Tests.{ltb-true, ltb-false}
-use lib.Bits.{bit_or}
 use lib.Dec.{eqb, ltb}
 use lib.ListN.{length, get_or, drop, get_or-map}
 use lib.Seq.{get_or-take, get_or-drop}
 use Rattle.layout.specs.declared.Edition.{Edition}
 use Rattle.layout.specs.declared.Edition.TheVariants.{One, Three, Four}
-use Rattle.faults.specs.Faults.{no}
-use Rattle.faults.proofs.Joins.{passed}
-use Rattle.text.proofs.Bits.{or_left, or_right}
+use Rattle.std.proofs.lemmas.Bool.{or_parts, not-false}
 use Rattle.columns.specs.declared.Table.{Table}
 use Rattle.columns.specs.Tables.{allowed, joined, Cell, cell, cells, bonds, cell_at, bond_at, fits, Column, Range, cut, Rows, Shared, Own, Columns}
 use Rattle.text.proofs.Ways.{second_holds}
@@ -26,10 +23,14 @@ pub record Judged (xs : List ℕ) (at : ℕ) (r : Table) (j : ℕ) : Type 0 wher
   pub bound : joined (get_or r.bond j 0) (get_or xs (at + j) 0) (get_or xs (at + j + 1) 0) ≡ true
 
 -- what the code's two tests of it say
-pub judge : {xs : List ℕ} {r : Table} {at j : ℕ} (o a : ℕ) →
-    (get_or r.low j 0 ≤ get_or r.high j 0 → get_or r.also j 0 ≤ get_or r.to j 0 → o ≡ no (allowed (get_or r.low j 0) (get_or r.high j 0) (get_or r.also j 0) (get_or r.to j 0) (get_or xs (at + j) 0))) →
-    a ≡ no (joined (get_or r.bond j 0) (get_or xs (at + j) 0) (get_or xs (at + j + 1) 0)) → bit_or o a ≡ 0 → Judged xs at r j
-judge o a f g z = record { held = λ l m. passed _ (f l m) (or_left o a z); bound = passed _ g (or_right o a z) }
+pub judge : {xs : List ℕ} {r : Table} {at j : ℕ} (o a : Bool) →
+    (get_or r.low j 0 ≤ get_or r.high j 0 → get_or r.also j 0 ≤ get_or r.to j 0 → o ≡ not (allowed (get_or r.low j 0) (get_or r.high j 0) (get_or r.also j 0) (get_or r.to j 0) (get_or xs (at + j) 0))) →
+    a ≡ not (joined (get_or r.bond j 0) (get_or xs (at + j) 0) (get_or xs (at + j + 1) 0)) → (o || a) ≡ false → Judged xs at r j
+judge o a f g z = let p = or_parts o a z in record { held = λ l m. not-false _ (sym (f l m) ∙ p.0); bound = not-false _ (sym g ∙ p.1) }
+
+-- of two tests neither finds anything
+pub neither_of : {P Q : Type 0} (x y : Bool) → (x ≡ false → P) → (y ≡ false → Q) → (x || y) ≡ false → P × Q
+neither_of x y f g z = let p = or_parts x y z in (f p.0, g p.1)
 
 cut_at : (t : List ℕ) (at k : ℕ) → k < 16 → get_or (cut at t) k 0 ≡ get_or t (at + k) 0
 cut_at t at k h = get_or-take 16 (drop at t) k 0 h ∙ get_or-drop at t k 0
@@ -71,11 +72,10 @@ unfolding joined
 last_of ed xs k h b j l t = let here : k ≡ j = omega arith in subst (Column ed xs) here (record { held = h; bound = rw b (second_holds (beq (not (eqb (get_or xs k 0) 32)) (not (eqb (get_or xs (k + 1) 0) 32))) _ refl) })
 
 -- sixteen columns and the one after them, which is the last
-pub to_last : (ed : Edition) (xs : List ℕ) (from k : ℕ) (p o : ℕ) → length xs ≡ k + 1 → (p ≡ 0 → Range ed xs from k) → o ≡ no (fits (cell_at ed k) (get_or xs (length xs - 1) 0)) → bond_at k ≡ 46 → bit_or p o ≡ 0 →
-    Range ed xs from (k + 1)
-to_last ed xs from k p o l f g b z =
+pub to_last : (ed : Edition) (xs : List ℕ) (from k : ℕ) (o : Bool) → length xs ≡ k + 1 → Range ed xs from k → o ≡ not (fits (cell_at ed k) (get_or xs (length xs - 1) 0)) → bond_at k ≡ 46 → o ≡ false → Range ed xs from (k + 1)
+to_last ed xs from k o l f g b z =
     let here : length xs - 1 ≡ k = omega arith in
-    onward k k (f (or_left p o z)) (last_of ed xs k (passed _ (g ∙ ap (λ (i : ℕ). no (fits (cell_at ed k) (get_or xs i 0))) here) (or_right p o z)) b) (le_refl k)
+    onward k k f (last_of ed xs k (ap (λ (i : ℕ). fits (cell_at ed k) (get_or xs i 0)) (sym here) ∙ not-false _ (sym g ∙ z)) b) (le_refl k)
 
 -- all columns, from those that are shared and an edition's own
 pub cover : (ed : Edition) (xs : List ℕ) → Shared xs → Own ed xs → Columns ed xs
@@ -83,8 +83,8 @@ cover ed xs s o k h =
     let t = s ed in
     onward 112 112 (onward 96 96 (onward 80 80 (onward 64 64 (onward 16 16 o.0 t.0 (omega arith)) o.1.0 (omega arith)) t.1 (omega arith)) o.1.1.0 (omega arith)) o.1.1.1 (omega arith) k (omega arith) h
 
--- an edition is the first, the third or the fourth
-pub each : (P : Edition → Type 0) → P One → P Three → P Four → (ed : Edition) → P ed
-each P p q r One = p
-each P p q r Three = q
-each P p q r Four = r
+-- a range in every edition, from what it needs in each of the three
+pub in_all : {xs : List ℕ} {from to : ℕ} {P : Edition → Type 0} → ((ed : Edition) → P ed → Range ed xs from to) → P One → P Three → P Four → (ed : Edition) → Range ed xs from to
+in_all f p q r One = f One p
+in_all f p q r Three = f Three q
+in_all f p q r Four = f Four r

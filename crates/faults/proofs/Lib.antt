@@ -1,3 +1,2 @@
--- The laws by which tests are joined.
-pub mod Joins
+-- The law of bytes counted around the end of all bytes.
 pub mod Rounds

@@ -2,19 +2,18 @@
 -- Assumes nothing.
 use Rattle.layout.proofs.PartLaws.{text_is}
 use mathlib.Core.Path.{◌≡◌, refl, sym, ap, ◌∙◌}
-use mathlib.Core.Bool.{Bool, true, not, ◌&&◌, ◌||◌, and-true, beq}
+use mathlib.Core.Bool.{Bool, true, false, not, ◌&&◌, ◌||◌, and-true, beq}
 use mathlib.Core.List.{List, [], ◌∷◌}
 use Prim.Native.Nat.{ℕ, ◌+◌, ◌-◌, ◌/◌, ◌%◌, ◌^◌, ◌<◌, ◌≤◌}
 use native.Mathlib.Omega.{arith}
-use borrow.Author.Tests.{ne_eqb, eq-eqb, eqb-true, not-true}
+use borrow.Author.Tests.{eqb-true, not-true}
+use Rattle.std.proofs.lemmas.Bool.{not-false}
 use lib.Dec.{eqb, lit<}
 use lib.ListN.{length}
 use Rattle.text.specs.Bytes.{every, between, digits, value_from, number, word}
 use Rattle.text.proofs.Below.{every_below, passes_below}
 use Rattle.text.proofs.Blanks.{not_blank}
 use Rattle.text.proofs.Ways.{and_first, and_second, beq_true, imply}
-use Rattle.faults.specs.Faults.{no}
-use Rattle.faults.proofs.Joins.{is_none}
 use Rattle.layout.specs.declared.Edition.{Edition}
 use Rattle.layout.specs.Page.{element, page, width_of, start_of, first_byte, is_text, is_departure, is_coordinate, is_sign, is_temperature}
 use Rattle.layout.proofs.Parts.{one_byte}
@@ -54,19 +53,19 @@ module _ (b : ℕ) where
   unfolding value_from
   as_word = omega arith
 
-  -- x is what is wrong with reading it as a code
-  module _ (f : b ≡ 32 → ⊥) (x : ℕ) (p : x ≡ no (between 48 57 b)) where
-    is_code : {t : Bool} → eqb x 0 ≡ t → digits (b ∷ []) ≡ t
+  -- x says whether it is no digit
+  module _ (f : b ≡ 32 → ⊥) (x : Bool) (p : x ≡ not (between 48 57 b)) where
+    is_code : {t : Bool} → between 48 57 b ≡ t → digits (b ∷ []) ≡ t
     unfolding every
-    is_code h = and-true (between 48 57 b) ∙ sym (is_none _ p) ∙ h
+    is_code h = and-true (between 48 57 b) ∙ h
 
-    pub column_text : (x ≡ 0 → ⊥) → Text b ≡ plain 1 (b ∷ [])
+    pub column_text : x ≡ true → Text b ≡ plain 1 (b ∷ [])
     unfolding plain
-    column_text z = rw (not_blank (b ∷ []) 0 (lit< tt) f, is_code (ne_eqb x 0 z)) (ap Text as_word)
+    column_text z = rw (not_blank (b ∷ []) 0 (lit< tt) f, is_code (not-true _ (sym p ∙ z))) (ap Text as_word)
 
-    pub column_code : x ≡ 0 → (n m : ℕ) → n ≡ b - 48 → m ≡ n → Code m ≡ plain 1 (b ∷ [])
+    pub column_code : x ≡ false → (n m : ℕ) → n ≡ b - 48 → m ≡ n → Code m ≡ plain 1 (b ∷ [])
     unfolding plain is_text element page
-    column_code z n m g h = rw (not_blank (b ∷ []) 0 (lit< tt) f, is_code (eq-eqb x 0 z)) (ap Code (h ∙ g ∙ as_number))
+    column_code z n m g h = rw (not_blank (b ∷ []) 0 (lit< tt) f, is_code (not-false _ (sym p ∙ z))) (ap Code (h ∙ g ∙ as_number))
 
 -- such an element reads as its one column does
 module _ (e : ℕ) (l : e ≤ 101) (s : single e ≡ true) where

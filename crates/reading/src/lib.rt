@@ -88,7 +88,7 @@ fn column_of(b: u8) -> Reading
     if b == b' ' {
         return Reading::Missing;
     }
-    if other != 0 {
+    if other {
         return Reading::Text(letter);
     }
     Reading::Code(code)

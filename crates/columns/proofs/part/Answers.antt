@@ -1,9 +1,8 @@
 -- `columns::part` meets its contract. Assumes nothing.
-use lib.Bits.{bit_or}
+use mathlib.Core.Bool.{◌||◌}
 use borrow.Author.Count.{below_more, below_none}
 use native.Mathlib.Omega.{arith}
-use Rattle.faults.proofs.Joins.{two_of}
-use Rattle.columns.proofs.Ranges.{judge, range_of}
+use Rattle.columns.proofs.Ranges.{judge, neither_of, range_of}
 use Rattle.columns.proofs.part.Goals as goal
 
 pub loop-k-init : goal.loop-k-init
@@ -13,7 +12,7 @@ pub loop-k-preserved : goal.loop-k-preserved
 loop-k-preserved c =
     let loop = c.loop-k in
     let outside = c.outside in
-    λ e. let r = two_of loop.bad (bit_or outside.result c.apart.result) loop.invariant (judge outside.result c.apart.result outside.ensures c.apart.ensures) e in
+    λ e. let r = neither_of loop.bad (outside.result || c.apart.result) loop.invariant (judge outside.result c.apart.result outside.ensures c.apart.ensures) e in
     below_more _ _ r.0 r.1
 
 pub returns : goal.returns

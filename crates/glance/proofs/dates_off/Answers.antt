@@ -1,7 +1,7 @@
 -- `glance::dates_off` meets its contract. Assumes nothing.
 use native.Mathlib.Omega.{arith}
 use lib.Dec.{lit≤}
-use Rattle.faults.proofs.Joins.{two_of}
+use Rattle.columns.proofs.Ranges.{neither_of}
 use Rattle.text.specs.Bytes.{value_from}
 use Rattle.numerals.specs.Numerals.{spelled}
 use Rattle.layout.specs.declared.Edition.TheVariants.{One}
@@ -22,4 +22,4 @@ off-requires-3 c = omega (arith, ends One 5 (lit≤ tt))
 
 pub returns : goal.returns
 unfolding All limit_of element page spelled value_from
-returns c = λ z. let r = two_of _ _ c.off.ensures (two_of _ _ c.off-2.ensures c.off-3.ensures) z in (r.0, (r.1.0, (r.1.1, tt)))
+returns c = λ z. let r = neither_of _ _ (neither_of _ _ c.off.ensures c.off-2.ensures) c.off-3.ensures z in (r.0.0, (r.0.1, (r.1, tt)))

@@ -1,7 +1,7 @@
 -- `glance::places_off` meets its contract. Assumes nothing.
 use native.Mathlib.Omega.{arith}
 use lib.Dec.{lit≤}
-use Rattle.faults.proofs.Joins.{two_of}
+use Rattle.columns.proofs.Ranges.{neither_of}
 use Rattle.text.specs.Bytes.{value_from}
 use Rattle.numerals.specs.Numerals.{spelled}
 use Rattle.layout.specs.declared.Edition.TheVariants.{One}
@@ -19,4 +19,4 @@ off-requires-2 c = omega (arith, ends One 8 (lit≤ tt))
 
 pub returns : goal.returns
 unfolding All limit_of element page spelled value_from
-returns c = λ z. let r = two_of _ _ c.off.ensures c.off-2.ensures z in (r.0, (r.1, tt))
+returns c = λ z. let r = neither_of _ _ c.off.ensures c.off-2.ensures z in (r.0, (r.1, tt))

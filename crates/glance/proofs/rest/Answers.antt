@@ -1,13 +1,11 @@
 -- `glance::rest` meets its contract. Assumes nothing.
 use native.Mathlib.Omega.{arith}
-use mathlib.Core.Path.{◌∙◌, ap, ap₂, sym, subst}
+use mathlib.Core.Path.{◌∙◌, ap, sym, subst}
 use lib.Dec.{lit≤}
 use Rattle.layout.specs.declared.Edition.{Edition}
 use Rattle.layout.specs.Editions.{length_of}
 use Rattle.layout.proofs.Beyond.{last_above}
 use Rattle.layout.proofs.RecordLaws.{ends, begins}
-use Rattle.faults.proofs.Joins.{passed}
-use Rattle.glance.specs.Tests.{octant_near}
 use Rattle.glance.specs.Sure.{Rest}
 use Rattle.glance.proofs.rest.Goals as goal
 
@@ -23,11 +21,6 @@ later_off-requires c = c.requires ∙ ap length_of c.in-Three.is
 
 pub later_off-requires-in-Four : goal.later_off-requires-in-Four
 later_off-requires-in-Four c = c.requires ∙ ap length_of c.in-Four.is
-
-pub returns-in-One : goal.returns-in-One
-returns-in-One c = λ z.
-    subst (λ (ed : Edition). Rest ed c.args.line.now) (sym c.in-One.is)
-    (ap₂ octant_near (sym c.first_byte.ensures) (sym c.word_of.ensures) ∙ passed _ c.octant_off.ensures z)
 
 pub returns-in-Three : goal.returns-in-Three
 returns-in-Three c =

@@ -8,7 +8,7 @@ use lib.Dec.{lit≤}
 use Rattle.layout.specs.declared.Edition.TheVariants.{One}
 use Rattle.layout.specs.Page.{page, columns, start_of, first_byte}
 use Rattle.layout.proofs.RecordLaws.{begins}
-use Rattle.faults.proofs.Joins.{two_of}
+use Rattle.columns.proofs.Ranges.{neither_of}
 use Rattle.glance.specs.Tests.{top_digit, half_digit}
 use Rattle.glance.specs.Sure.{Temperature, Degrees}
 use Rattle.glance.proofs.temperatures.Goals as goal
@@ -47,5 +47,5 @@ pub returns : goal.returns
 returns c = λ z.
     let e = c.top_digit-top.ensures ∙ ap top_digit c.first_byte.ensures in
     let f = c.half_digit-half.ensures ∙ ap half_digit c.first_byte-2.ensures in
-    let r = two_of _ _ (two_of _ _ c.temperature.ensures c.temperature-2.ensures) (two_of _ _ c.temperature-3.ensures c.temperature-4.ensures) z in
-    ((degrees e f r.0.0, degrees e f r.0.1), (degrees e f r.1.0, degrees e f r.1.1))
+    let r = neither_of _ _ (neither_of _ _ (neither_of _ _ c.temperature.ensures c.temperature-2.ensures) c.temperature-3.ensures) c.temperature-4.ensures z in
+    ((degrees e f r.0.0.0, degrees e f r.0.0.1), (degrees e f r.0.1, degrees e f r.1))

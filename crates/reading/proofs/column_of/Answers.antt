@@ -6,9 +6,9 @@ use Rattle.reading.proofs.column_of.Goals as goal
 pub returns-then-b-eq32 : goal.returns-then-b-eq32
 returns-then-b-eq32 c = column_missing _ c.if-b-eq32.true
 
-pub returns-then-other-ne0 : goal.returns-then-other-ne0
-returns-then-other-ne0 c = rw c.from-letter.ensures (column_text _ c.if-b-eq32.false _ (c.strays-other.ensures (lit≤ tt)) c.if-other-ne0.true)
+pub returns-then-other : goal.returns-then-other
+returns-then-other c = rw c.from-letter.ensures (column_text _ c.if-b-eq32.false _ (c.strays-other.ensures (lit≤ tt)) c.if-other.true)
 
 pub returns : goal.returns
 returns c =
-    column_code _ c.if-b-eq32.false _ (c.strays-other.ensures (lit≤ tt)) c.if-other-ne0.false _ _ c.digit_of.ensures c.from-code.ensures
+    column_code _ c.if-b-eq32.false _ (c.strays-other.ensures (lit≤ tt)) c.if-other.false _ _ c.digit_of.ensures c.from-code.ensures

@@ -6,22 +6,25 @@
 
 ghost use Rattle.std.specs.Prelude.{◌≡◌, length};
 ghost use Rattle.refusals.specs.Verdicts.{verdict_number, verdict_place};
-ghost use Rattle.refusals.specs.Lent.{left_by};
+ghost use Rattle.refusals.specs.Lent.{in_room, verdict_in, left_by};
 ghost use Rattle.checking.specs.Check.{answer_verdict};
 ghost use Rattle.reading.specs.Answers.{read_of};
-ghost use Rattle.recasting.specs.Recast.{recast_of, outcome_in};
+ghost use Rattle.recasting.specs.Recast.{recast_of, losses_in};
+
+use element_sets::ElementSet;
 
 // Checks a record: the refusal's number, 0 where it is accepted, and the place, as reading it answers.
 // The readings are not made: the compiler does not drop those that nobody asks for.
 #[unsafe(no_mangle)]
+#[tactic(auto, using(reading::proofs::Request6Readings::checks))]
 pub extern "C" fn immt_check(line: &[u8], place: &mut u64) -> u64
     ensures value { result ≡ verdict_number (answer_verdict (read_of line.now).answer) }
     ensures place_after { place.new ≡ verdict_place (answer_verdict (read_of line.now).answer) }
 {
     let answer = checking::check(line);
-    let verdict = answer.verdict();
-    let at = verdict.place();
-    let number = verdict.number();
+    let verdict = checking::verdict_of(answer);
+    let at = refusals::place_of(verdict);
+    let number = refusals::number_of(verdict);
     *place = at;
     number
 }
@@ -38,17 +41,17 @@ pub extern "C" fn immt_recast(
     lost_low: &mut u64,
     lost_high: &mut u64,
 ) -> u64
-    ensures value { result ≡ verdict_number (outcome_in (length buffer.old) (recast_of line.now edition)).verdict }
-    ensures place_after { place.new ≡ verdict_place (outcome_in (length buffer.old) (recast_of line.now edition)).verdict }
-    ensures lost_low_after { lost_low.new ≡ (outcome_in (length buffer.old) (recast_of line.now edition)).losses.low }
-    ensures lost_high_after { lost_high.new ≡ (outcome_in (length buffer.old) (recast_of line.now edition)).losses.high }
+    ensures value { result ≡ verdict_number (verdict_in (length buffer.old) (recast_of line.now edition)) }
+    ensures place_after { place.new ≡ verdict_place (verdict_in (length buffer.old) (recast_of line.now edition)) }
+    ensures lost_low_after { lost_low.new ≡ (losses_in (in_room (length buffer.old) (recast_of line.now edition))).low }
+    ensures lost_high_after { lost_high.new ≡ (losses_in (in_room (length buffer.old) (recast_of line.now edition))).high }
     ensures buffer_after { buffer.new ≡ left_by (recast_of line.now edition) buffer.old }
 {
     let outcome = recasting::recast(line, edition, buffer);
-    let verdict = outcome.verdict;
-    let losses = outcome.losses;
-    let refused_at = verdict.place();
-    let refusal = verdict.number();
+    let verdict = outcome.map(|_| ());
+    let losses = outcome.unwrap_or(ElementSet::none());
+    let refused_at = refusals::place_of(verdict);
+    let refusal = refusals::number_of(verdict);
     *place = refused_at;
     *lost_low = losses.low;
     *lost_high = losses.high;

@@ -62,5 +62,5 @@ pub fn own(line: &[u8]) -> bool
         | part(line, 112, &FLAGS)
         | part(line, 128, &COURSE)
         | part(line, 142, &LAST)
-        | outside(line[line.len() - 1], 48, 55, 57, 57)
+        | outside(line[line.len() - 1], b'0', b'7', b'9', b'9')
 }

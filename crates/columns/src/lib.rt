@@ -23,7 +23,7 @@ use layout::Edition;
 pub fn outside(b: u8, low: u8, high: u8, also: u8, to: u8) -> bool
     ensures { low ≤ high → also ≤ to → result ≡ not (allowed low high also to b) }
 {
-    (b != b' ') & (strays(b, low, high) & strays(b, also, to))
+    (b != b' ') & strays(b, low, high) & strays(b, also, to)
 }
 
 // May the two neighbours not stand together?

@@ -53,5 +53,5 @@ pub fn own(line: &[u8]) -> bool
         | part(line, 112, &EARLY_FLAGS)
         | part(line, 128, &COURSE)
         | part(line, 142, &LAST)
-        | outside(line[line.len() - 1], 48, 53, 57, 57)
+        | outside(line[line.len() - 1], b'0', b'5', b'9', b'9')
 }

@@ -18,7 +18,8 @@ fn ends_among(bytes: &[u8]) -> u8
 }
 
 // Where the line ends that `from` lies in: at the next byte 10, or at the end of the piece. Sixteen bytes
-// are passed over at a time, as long as no line ends among them.
+// are passed over at a time, as long as no line ends among them: the place is asked for, which a count of
+// `chunks_exact` would have to be turned back into.
 pub fn line_end(piece: &[u8], from: usize) -> usize
     requires { from ≤ length piece.now }
     ensures value { result ≡ next_end piece.now from }

@@ -67,7 +67,8 @@ pub struct Fed {
     pub written: usize,
 }
 
-// What finishing a run leads to: how many bytes were written, and whether anything was refused.
+// What finishing a run leads to: how many bytes were written, and whether anything was refused. Both are
+// answered, also where there was no room: the theorem `fed_report` speaks of each.
 #[derive(Clone, Copy)]
 pub struct Finished {
     pub written: usize,
@@ -105,7 +106,8 @@ fn asked_by(line: &[u8]) -> Option<Edition>
     }
 }
 
-// Says of a record what the job has to say of it, and answers whether the record is refused.
+// Says of a record what the job has to say of it, and answers whether the record is refused. The jobs are
+// three and one is picked as the program runs: with a trait in place of the enum, this match would pick it.
 fn tell(sheet: &mut Sheet<'_>, count: u64, line: &[u8], job: Job) -> bool
     requires { HasRoom record_most sheet.old }
     ensures { Says (said_for job count line.now) (refused_for job line.now) sheet.old sheet.new result }
@@ -203,7 +205,8 @@ impl Run {
     }
 
     // Takes a piece of the input from its front on, line after line. It stops early only where the sheet has
-    // no room left for what may be said of a record, and answers how many bytes are taken.
+    // no room left for what may be said of a record, and answers how many bytes are taken. A turn takes a
+    // line, which may have any length, so there is nothing to count.
     fn take(&mut self, sheet: &mut Sheet<'_>, piece: &[u8]) -> usize
         ensures takes { Takes (view self.old) piece.now sheet.old self.new sheet.new result }
         ensures stops { result < length piece.now → length sheet.new.out.now < sheet.new.end + record_most }

@@ -4,7 +4,6 @@
 // the business of `layout`. The contracts cite `specs/Bytes.antt` and `specs/LegalTexts.antt`.
 #![tactic(auto)]
 
-ghost use Rattle.std.specs.Bool.{beq};
 ghost use Rattle.std.specs.Prelude.{◌≡◌, ◌≤◌, ◌-◌, length, take};
 ghost use Rattle.text.specs.Bytes.{every, between, either, blank, number, run, to_last_non_blank};
 ghost use Rattle.text.specs.LegalTexts.{among, in_call_sign, call_sign, allows, digits_in};
@@ -44,13 +43,6 @@ pub fn is_blank(text: &[u8]) -> bool
     all_between(text, 32, 32)
 }
 
-// What a byte adds to a number: a digit's value.
-pub fn digit_of(b: u8) -> u32
-    ensures { result ≡ b - 48 }
-{
-    u32::from(b.saturating_sub(b'0'))
-}
-
 // The number that up to seven digits say.
 pub fn number_of(text: &[u8]) -> u32
     requires { length text.now ≤ 7 }
@@ -77,32 +69,11 @@ pub fn is_either(n: u32, a: u32, b: u32, c: u32, d: u32) -> bool
     is_between(n, a, b) || is_between(n, c, d)
 }
 
-// Are both true or both false?
-pub fn same(a: bool, b: bool) -> bool
-    ensures { result ≡ beq a b }
-{
-    a == b
-}
-
 // Is the number one of four?
 pub fn is_among(n: u32, a: u32, b: u32, c: u32, d: u32) -> bool
     ensures { result ≡ among a b c d n }
 {
     [a, b, c, d].contains(&n)
-}
-
-// A byte as a number as wide as a word is.
-pub fn byte(b: u8) -> u64
-    ensures { (result ≡ b) × (result ≤ 255) }
-{
-    u64::from(b)
-}
-
-// A number that columns say, as wide as a word is.
-pub fn wide(n: u32) -> u64
-    ensures { result ≡ n }
-{
-    u64::from(n)
 }
 
 // How many characters of a call sign stand at the front?

@@ -83,7 +83,7 @@ fn column_of(b: u8) -> Reading
     ensures { result ≡ plain 1 (b ∷ []) }
 {
     let other = strays(b, b'0', b'9');
-    let code = u64::from(text::digit_of(b));
+    let code = u64::from(b.saturating_sub(b'0'));
     let letter = u64::from(b);
     if b == b' ' {
         return Reading::Missing;

@@ -11,4 +11,4 @@ returns-then-other c = rw c.from-letter.ensures (column_text _ c.if-b-eq32.false
 
 pub returns : goal.returns
 returns c =
-    column_code _ c.if-b-eq32.false _ (c.strays-other.ensures (lit≤ tt)) c.if-other.false _ _ c.digit_of.ensures c.from-code.ensures
+    column_code _ c.if-b-eq32.false _ (c.strays-other.ensures (lit≤ tt)) c.if-other.false _ _ c.saturating_sub.ensures c.from-code.ensures

@@ -14,9 +14,10 @@ use Rattle.wording.specs.declared.sheet.Sheet.{Sheet}
 use Rattle.report_lines.specs.Says.{record_most}
 use Rattle.reporting.specs.declared.Ledger.{Ledger}
 use Rattle.reporting.specs.declared.Run.{Run}
+use Rattle.reporting.specs.declared.Taking.{Taking}
 use Rattle.reporting.specs.Lines.{next_end}
 use Rattle.reporting.specs.Run.{State, state, ledger_after, said_of, kept, step, state_after, said_by}
-use Rattle.reporting.specs.FeedClauses.{view, Tells, Takes, Feeds}
+use Rattle.reporting.specs.FeedClauses.{view, seen, Tells, Takes, Feeds}
 use Rattle.wording.proofs.PutLaws.{nothing, also}
 use Rattle.reporting.proofs.CutLaws.{kept_cut}
 use Rattle.reporting.proofs.RunLaws.{state_append, said_append}
@@ -58,12 +59,12 @@ found (b ∷ rest) h = by (eqb b 10) refl (found rest) h
     by false e there k = there (omega arith)
 
 -- nothing is taken of the piece
-pub takes_none : (run : Run) (piece : List ℕ) (before : Sheet) → Takes (view run) piece before run before 0
+pub takes_none : (run : Taking) (piece : List ℕ) (before : Sheet) → Takes (seen run) piece before run before 0
 unfolding state_after said_by
 takes_none run piece before = record { within = omega arith; after = refl; same_buffer = refl; same_length = refl; said = nothing before.end before.out.now }
 
 -- the bytes from `at` to the next line end, or to the end of the piece
-module _ {s : State} {piece : List ℕ} {before now : Sheet} {run : Run} {at : ℕ} (f : Takes s piece before run now at) (end : ℕ)
+module _ {s : State} {piece : List ℕ} {before now : Sheet} {run : Taking} {at : ℕ} (f : Takes s piece before run now at) (end : ℕ)
     (e : end ≡ next_end piece at) (h : end ≤ length piece) (short : length run.held ≤ 160) where
   abbrev l : Ledger
   l = run.ledger
@@ -106,7 +107,7 @@ module _ {s : State} {piece : List ℕ} {before now : Sheet} {run : Run} {at : �
       append-nil (said_by s (take at piece))
 
   -- the bytes are kept
-  pub takes_kept : {more : Run} → more.ledger ≡ l → more.held ≡ take 160 (held ++ line) → Takes s piece before more now end
+  pub takes_kept : {more : Taking} → more.ledger ≡ l → more.held ≡ take 160 (held ++ line) → Takes s piece before more now end
   takes_kept g k = record { within = h; after = state_span ∙ ap₂ state (sym g) (sym k); same_buffer = f.same_buffer; same_length = f.same_length; said = rw said_span f.said }
 
   -- the line ends here, and is told
@@ -133,7 +134,7 @@ module _ {s : State} {piece : List ℕ} {before now : Sheet} {run : Run} {at : �
         ap (λ (t : List ℕ). t ++ (said_of l (take 160 (held ++ line)) ++ [])) said_span ∙
         ap (λ (t : List ℕ). said_by s (take at piece) ++ t) (append-nil _)
 
-    pub takes_line : {more : Run} {later : Sheet} → Tells l (take 160 (held ++ line)) now later more.ledger → more.held ≡ [] → Takes s piece before more later (end + 1)
+    pub takes_line : {more : Taking} {later : Sheet} → Tells l (take 160 (held ++ line)) now later more.ledger → more.held ≡ [] → Takes s piece before more later (end + 1)
     takes_line {more} {later} t k = record {
       within = omega arith;
       after = state_line ∙ ap₂ state (sym t.next) (sym k);
@@ -143,23 +144,27 @@ module _ {s : State} {piece : List ℕ} {before now : Sheet} {run : Run} {at : �
     }
 
 -- where it stops, all of the piece is taken, or too little room is left for another line
-pub feeds : {run last : Run} {piece after : List ℕ} (before now : Sheet) {at : ℕ} → before.end ≡ 0 → after ≡ now.out.now → Takes (view run) piece before last now at →
+pub feeds : {run last : Run} {first final : Taking} {piece after : List ℕ} (before now : Sheet) {at : ℕ} → seen first ≡ view run → view last ≡ seen final →
+    before.end ≡ 0 → after ≡ now.out.now → Takes (seen first) piece before final now at →
     (at < length piece → length now.out.now < now.end + record_most) → Feeds run piece before.out.now after (record { run = last; taken = at; written = now.end })
 unfolding said_by
-feeds {run} {piece = piece} before now {at} z e f h =
+feeds {run} {first = first} {final} {piece = piece} before now {at} p q z e t h =
     let said = rw z at f.said in
     record {
       within = f.within;
       room = omega (arith, now.within, f.same_length);
-      state = sym f.after;
+      state = q ∙ sym f.after;
       said = rw e said;
       stops = λ k. omega (arith, h k, f.same_length);
       moves = by at refl;
     }
   where
+    f : Takes (view run) piece before final now at
+    f = rw p at t
+
     by : (k : ℕ) → at ≡ k → record_most ≤ length before.out.now → 0 < length piece → 0 < at
-    by zero q r p =
-        let none : length (said_by (view run) (take at piece)) ≡ 0 = rw q in
+    by zero i r m =
+        let none : length (said_by (view run) (take at piece)) ≡ 0 = rw i in
         let full = h (omega arith) in
         absurd (omega (arith, f.said.ends, f.same_length))
-    by (suc k) q r p = omega arith
+    by (suc k) i r m = omega arith

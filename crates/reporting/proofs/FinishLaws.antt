@@ -11,8 +11,9 @@ use Rattle.wording.proofs.PutLaws.{then, unchanged, within}
 use Rattle.report_lines.specs.Says.{line_most, record_most}
 use Rattle.reporting.specs.declared.Ledger.{Ledger}
 use Rattle.reporting.specs.declared.Run.{Run}
+use Rattle.reporting.specs.declared.Taking.{Taking}
 use Rattle.reporting.specs.Run.{State, state, ledger_after, last_words, has_refused, end_with, end_of, rest_with, rest_said, closing_with, closing}
-use Rattle.reporting.specs.FeedClauses.{view, Tells, Finishes, closing_most}
+use Rattle.reporting.specs.FeedClauses.{view, seen, Tells, Finishes, closing_most}
 
 -- a buffer without room for the end is left as it is
 pub finish_short : (run : Run) (before : List ℕ) (b : Bool) → length before < closing_most → Finishes run before before (record { written = 0; refused = b })
@@ -42,10 +43,12 @@ module _ (l : Ledger) where
   rest_line (b ∷ held) some e t = (t.next ∙ ap (ledger_after l) e, rw e at t.said)
 
 -- the line that has no end is taken, and what is said last is put
-pub finished : (run : Run) {after : List ℕ} {before now last : Sheet} {l : Ledger} {b : Bool} → before.end ≡ 0 → closing_most ≤ length before.out.now → after ≡ last.out.now → l ≡ end_of (view run) →
-    Adds (rest_said (view run)) record_most before now → Adds (last_words l) line_most now last → b ≡ has_refused l →
+pub finished : (run : Run) {taking : Taking} {after : List ℕ} {before now last : Sheet} {l : Ledger} {b : Bool} → seen taking ≡ view run → before.end ≡ 0 → closing_most ≤ length before.out.now → after ≡ last.out.now → l ≡ end_of (seen taking) →
+    Adds (rest_said (seen taking)) record_most before now → Adds (last_words l) line_most now last → b ≡ has_refused l →
     Finishes run before.out.now after (record { written = last.end; refused = b })
-finished run {last = last} z room back e p q g =
+finished run {last = last} same z room back f t q g =
+    let e = rw same at f in
+    let p = rw same at t in
     let all = then p q in
     record {
       room = omega (arith, last.within, all.same_length);

@@ -5,13 +5,18 @@ use Rattle.wording.specs.Puts.{Puts, Adds}
 use Rattle.report_lines.specs.Says.{record_most}
 use Rattle.reporting.specs.declared.Ledger.{Ledger}
 use Rattle.reporting.specs.declared.Run.{Run}
+use Rattle.reporting.specs.declared.Taking.{Taking}
 use Rattle.reporting.specs.declared.Fed.{Fed}
 use Rattle.reporting.specs.declared.Finished.{Finished}
 use Rattle.reporting.specs.Run.{ledger_after, said_of, state_after, said_by, end_of, has_refused, closing, State, state}
 
--- the state of a run of the code
+-- the state of a run of the code, which may hold no more than its array has
 abbrev pub view : Run → State
-view run = state run.ledger run.held
+view run = state run.ledger (take run.length run.held)
+
+-- the same of a run as its lines are taken
+abbrev pub seen : Taking → State
+seen run = state run.ledger run.held
 
 -- a line is told: the ledger after it, and what is said of it on the sheet
 pub record Tells (l : Ledger) (line : List ℕ) (before after : Sheet) (r : Ledger) : Type 0 where
@@ -19,9 +24,9 @@ pub record Tells (l : Ledger) (line : List ℕ) (before after : Sheet) (r : Ledg
   pub said : Adds (said_of l line) record_most before after
 
 -- some of a piece is taken, from its front on: what it has led to, and what is said of it on the sheet
-pub record Takes (first : State) (piece : List ℕ) (before : Sheet) (run : Run) (now : Sheet) (at : ℕ) : Type 0 where
+pub record Takes (first : State) (piece : List ℕ) (before : Sheet) (run : Taking) (now : Sheet) (at : ℕ) : Type 0 where
   pub within : at ≤ length piece
-  pub after : state_after first (take at piece) ≡ view run
+  pub after : state_after first (take at piece) ≡ seen run
   pub same_buffer : now.out.ghost_name ≡ before.out.ghost_name
   pub same_length : length now.out.now ≡ length before.out.now
   pub said : Puts (said_by first (take at piece)) before.end before.out.now now.out.now now.end

@@ -2,16 +2,13 @@
 ghost use Rattle.std.specs.Prelude.{◌≡◌, ◌↔◌, ◌++◌, ◌≤◌, List, ℕ, [], length, take, IsTrue};
 ghost use Rattle.reporting.specs.Run.{held_most};
 
-use layout::LONGEST;
+use crate::HELD;
 use std::marker::Model;
-
-// How much is held of a line: one byte more than any record has tells all.
-const MOST: usize = LONGEST + 1;
 
 // The bytes that are held, and how many they are.
 #[derive(Drop)]
 pub struct Held {
-    bytes: [u8; MOST],
+    bytes: [u8; HELD],
     length: usize,
 }
 
@@ -25,14 +22,22 @@ impl Model for Held {
 }
 
 impl Held {
-    // Nothing is held.
-    pub fn new() -> Held
-        ensures { result ≡ [] }
+    // As many of the bytes are held as there are.
+    pub fn of(bytes: [u8; HELD], length: usize) -> Held
+        ensures { result ≡ take length bytes }
     {
         Held {
-            bytes: [0; MOST],
-            length: 0,
+            bytes,
+            length: length.min(HELD),
         }
+    }
+
+    // A buffer in whose front stands what is held, and how many bytes that are.
+    pub fn parts(self) -> ([u8; HELD], usize)
+        ensures { take result.1 result.0 ≡ self }
+    {
+        let Held { bytes, length } = self;
+        (bytes, length)
     }
 
     // Is nothing held?
@@ -55,7 +60,7 @@ impl Held {
         ensures held { self.new ≡ take held_most (self.old ++ more.now) }
         ensures short { length self.old ≤ held_most }
     {
-        let n = more.len().min(MOST - self.length);
+        let n = more.len().min(HELD - self.length);
         let end = self.length + n;
         self.bytes[self.length..end].copy_from_slice(&more[..n]);
         self.length = end;

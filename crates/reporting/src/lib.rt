@@ -13,11 +13,11 @@ ghost use Rattle.wording.specs.Puts.{HasRoom, Adds};
 ghost use Rattle.report_lines.specs.Says.{line_most, record_most, Says};
 ghost use Rattle.reporting.specs.Report.{said_for, refused_for, asked_by};
 ghost use Rattle.reporting.specs.Run.{start, last_words, rest_said, end_of, has_refused, held_most};
-ghost use Rattle.reporting.specs.FeedClauses.{view, Tells, Takes, Feeds, Finishes};
+ghost use Rattle.reporting.specs.FeedClauses.{view, seen, Tells, Takes, Feeds, Finishes};
 
 use ends::line_end;
 use held::Held;
-use layout::Edition;
+use layout::{Edition, LONGEST};
 use wording::Sheet;
 
 // What is told of each record.
@@ -50,17 +50,28 @@ pub struct Ledger {
     pub refused: u64,
 }
 
+// How much is held of a line that has not ended: one byte more than any record has tells all.
+pub const HELD: usize = LONGEST + 1;
+
 // A run between two pieces of its input: the ledger, and the line that has not ended yet, as much of it as
-// is held.
-#[derive(Drop)]
+// is held. A buffer and a length, and no type with an invariant: `feed` and `finish` take every such run.
+#[derive(Clone, Copy)]
 pub struct Run {
     pub ledger: Ledger,
+    pub held: [u8; HELD],
+    pub length: usize,
+}
+
+// A run as its lines are taken.
+#[derive(Drop)]
+struct Taking {
+    ledger: Ledger,
     held: Held,
 }
 
 // What feeding a piece leads to: the run after it, how many bytes of the piece were taken, and how many
 // were written.
-#[derive(Drop)]
+#[derive(Clone, Copy)]
 pub struct Fed {
     pub run: Run,
     pub taken: usize,
@@ -91,7 +102,8 @@ pub fn start(stage: Stage) -> Run
             records: 0,
             refused: 0,
         },
-        held: Held::new(),
+        held: [0; HELD],
+        length: 0,
     }
 }
 
@@ -187,7 +199,30 @@ impl Ledger {
     }
 }
 
-impl Run {
+impl Taking {
+    // Takes a run up, with as much of its line as its buffer has.
+    fn of(run: Run) -> Taking
+        ensures { seen result ≡ view run }
+    {
+        Taking {
+            ledger: run.ledger,
+            held: Held::of(run.held, run.length),
+        }
+    }
+
+    // The run that it has come to.
+    fn run(self) -> Run
+        ensures { view result ≡ seen self }
+    {
+        let ledger = self.ledger;
+        let (held, length) = self.held.parts();
+        Run {
+            ledger,
+            held,
+            length,
+        }
+    }
+
     // Takes the line that ends after these bytes, of which nothing is held then. A line that lies wholly in
     // the piece is taken as it lies there.
     fn take_ended(&mut self, sheet: &mut Sheet<'_>, bytes: &[u8])
@@ -208,7 +243,7 @@ impl Run {
     // no room left for what may be said of a record, and answers how many bytes are taken. A turn takes a
     // line, which may have any length, so there is nothing to count.
     fn take(&mut self, sheet: &mut Sheet<'_>, piece: &[u8]) -> usize
-        ensures takes { Takes (view self.old) piece.now sheet.old self.new sheet.new result }
+        ensures takes { Takes (seen self.old) piece.now sheet.old self.new sheet.new result }
         ensures stops { result < length piece.now → length sheet.new.out.now < sheet.new.end + record_most }
     {
         let mut at = 0;
@@ -232,8 +267,8 @@ impl Run {
     // Takes the line that has no end, if there is one.
     fn take_rest(&mut self, sheet: &mut Sheet<'_>)
         requires { HasRoom record_most sheet.old }
-        ensures next { self.new.ledger ≡ end_of (view self.old) }
-        ensures said { Adds (rest_said (view self.old)) record_most sheet.old sheet.new }
+        ensures next { self.new.ledger ≡ end_of (seen self.old) }
+        ensures said { Adds (rest_said (seen self.old)) record_most sheet.old sheet.new }
     {
         if !self.held.is_empty() {
             self.ledger.take_line(sheet, self.held.as_slice());
@@ -243,13 +278,14 @@ impl Run {
 
 // Feeds a piece of the input to a run: line after line is taken, and what is said is written to the
 // front of `out`. It stops early only where `out` has no room left for what may be said of a record.
-pub fn feed(mut run: Run, piece: &[u8], out: &mut [u8]) -> Fed
+pub fn feed(run: Run, piece: &[u8], out: &mut [u8]) -> Fed
     ensures { Feeds run piece.now out.old out.new result }
 {
+    let mut taking = Taking::of(run);
     let mut sheet = Sheet { out, end: 0 };
-    let taken = run.take(&mut sheet, piece);
+    let taken = taking.take(&mut sheet, piece);
     Fed {
-        run,
+        run: taking.run(),
         taken,
         written: sheet.end,
     }
@@ -257,7 +293,7 @@ pub fn feed(mut run: Run, piece: &[u8], out: &mut [u8]) -> Fed
 
 // Finishes a run at the end of its input: tells the line that has no end, if there is one, and what is
 // said last. Where `out` has fewer than `CLOSING_MOST` bytes nothing is written.
-pub fn finish(mut run: Run, out: &mut [u8]) -> Finished
+pub fn finish(run: Run, out: &mut [u8]) -> Finished
     ensures { Finishes run out.old out.new result }
 {
     if out.len() < CLOSING_MOST {
@@ -266,6 +302,7 @@ pub fn finish(mut run: Run, out: &mut [u8]) -> Finished
             refused: true,
         };
     }
+    let mut run = Taking::of(run);
     let mut sheet = Sheet { out, end: 0 };
     run.take_rest(&mut sheet);
     run.ledger.put_last(&mut sheet);

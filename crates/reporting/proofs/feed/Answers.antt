@@ -5,4 +5,4 @@ use mathlib.Core.Path.{refl}
 use Rattle.reporting.proofs.feed.Goals as goal
 
 pub returns : goal.returns
-returns c = feeds _ c.take-taken.new.sheet refl (search rules) c.take-taken.ensures.takes c.take-taken.ensures.stops
+returns c = feeds _ c.take-taken.new.sheet c.of-taking.ensures c.run.ensures refl (search rules) c.take-taken.ensures.takes c.take-taken.ensures.stops

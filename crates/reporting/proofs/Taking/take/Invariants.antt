@@ -1,10 +1,10 @@
 use Prim.Native.Nat.{◌-◌}
-use Rattle.reporting.specs.FeedClauses.{view, Takes}
+use Rattle.reporting.specs.FeedClauses.{seen, Takes}
 use lib.ListN.{length}
-use Rattle.reporting.proofs.Run.take.Given as goal
+use Rattle.reporting.proofs.Taking.take.Given as goal
 
 abbrev pub invariant-loop-at : goal.invariant-loop-at
-invariant-loop-at l = Takes (view l.fn.self) l.piece l.initial.sheet l.self l.sheet l.at
+invariant-loop-at l = Takes (seen l.fn.self) l.piece l.initial.sheet l.self l.sheet l.at
 
 abbrev pub decreases-loop-at : goal.decreases-loop-at
 decreases-loop-at l = length l.piece - l.at

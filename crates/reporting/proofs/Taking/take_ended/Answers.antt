@@ -1,9 +1,9 @@
--- `reporting::Run::take_ended` meets its contract. Assumes nothing.
+-- `reporting::Taking::take_ended` meets its contract. Assumes nothing.
 use Rattle.reporting.proofs.TellLaws.{cut_tells}
 use mathlib.Core.Path.{◌≡◌}
 use mathlib.Core.List.{[]}
 use borrow.Author.Rules.{rules}
-use Rattle.reporting.proofs.Run.take_ended.Goals as goal
+use Rattle.reporting.proofs.Taking.take_ended.Goals as goal
 
 pub returns-then-is_empty-clause-tells : goal.returns-then-is_empty-clause-tells
 returns-then-is_empty-clause-tells c =

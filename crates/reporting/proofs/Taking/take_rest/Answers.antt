@@ -1,9 +1,9 @@
--- `reporting::Run::take_rest` meets its contract. Assumes nothing.
+-- `reporting::Taking::take_rest` meets its contract. Assumes nothing.
 use Rattle.reporting.proofs.FinishLaws.{rest_none, rest_line}
 use borrow.Author.Rules.{rules}
 use mathlib.Core.Path.{◌≡◌}
 use mathlib.Core.List.{[]}
-use Rattle.reporting.proofs.Run.take_rest.Goals as goal
+use Rattle.reporting.proofs.Taking.take_rest.Goals as goal
 
 pub returns-then-not-is_empty : goal.returns-then-not-is_empty
 returns-then-not-is_empty c =

@@ -1,7 +1,7 @@
--- `reporting::Run::take` meets its contract: line after line, what is taken of the piece so far has led to the run and to the text. Assumes nothing.
+-- `reporting::Taking::take` meets its contract: line after line, what is taken of the piece so far has led to the run and to the text. Assumes nothing.
 use Rattle.reporting.proofs.FeedLaws.{takes_kept, takes_line, takes_none}
 use mathlib.Core.Path.{refl}
-use Rattle.reporting.proofs.Run.take.Goals as goal
+use Rattle.reporting.proofs.Taking.take.Goals as goal
 
 pub loop-at-init : goal.loop-at-init
 loop-at-init c = takes_none c.args.self.now _ _

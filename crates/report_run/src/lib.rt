@@ -40,12 +40,7 @@ fn write_all<W: Write>(to: &mut W, bytes: &[u8]) -> Result<(), Failure> {
 }
 
 // Feeds a piece to the run, and writes what it says.
-fn feed_all<W: Write>(
-    to: &mut W,
-    run: Run,
-    piece: &[u8],
-    out: &mut [u8],
-) -> Result<Run, Failure>
+fn feed_all<W: Write>(to: &mut W, run: Run, piece: &[u8], out: &mut [u8]) -> Result<Run, Failure>
     requires { record_most ≤ length out.old }
 {
     let mut now = run;

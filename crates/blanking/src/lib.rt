@@ -17,7 +17,7 @@ use layout::{Edition, widths};
 use places::column_12::{Way, is_first};
 use spans::Span;
 
-// Is it edition 4?
+// Is it edition 4? Named as its definition, which three contracts here cite; so is `is_first` of `places`.
 fn is_fourth(edition: Edition) -> bool
     ensures { result ≡ is_fourth edition }
 {
@@ -118,7 +118,8 @@ fn blank_flags(row: &mut [u8], back: bool)
     blank(row, 78, 85, Span(b'6', b'7'));
 }
 
-// Blanks what is lost of the elements that edition 1 does not have, where the target has them.
+// Blanks what is lost of the elements that edition 1 does not have, where the target has them. In the shape
+// of those above, each step has its own elements and its own definition of what it blanks.
 fn blank_later(row: &mut [u8], back: bool)
     requires { longest_record ≤ length row.old }
     ensures { row.new ≡ blanked (later_lost false back) row.old }

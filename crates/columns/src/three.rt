@@ -42,7 +42,8 @@ const LAST: Table = Table {
     bond: *b"==.==.==........",
 };
 
-// Does a column that is edition 3's own hold what it may not?
+// Does a column that is edition 3's own hold what it may not? As edition 4's, over tables of its own: the
+// tables are constants, and with them as parameters this would be six names for six names.
 pub fn own(line: &[u8]) -> bool
     requires { length line.now ≡ longest_record }
     ensures { result ≡ false → Own Edition.Three line.now }

@@ -40,7 +40,8 @@ fn off(line: &[u8], e: usize, top: u64, gap: u64, end: u64) -> bool
     beyond(word_of(line, e), top, gap, end)
 }
 
-// Month 01 to 12, day 01 to 31, hour 00 to 23. A digit d stands here as 0x3d.
+// Month 01 to 12, day 01 to 31, hour 00 to 23. A digit d stands here as 0x3d. What follows in this shape has
+// other elements and limits, and nothing else: as rows of a table they would be these lines, and a loop.
 fn dates_off(line: &[u8]) -> bool
     requires { 131 ≤ length line.now }
     ensures { result ≡ false → Limits dates line.now }
@@ -131,7 +132,8 @@ fn top_digit(format: u8) -> u8
     if format == b'3' { b'9' } else { b'0' }
 }
 
-// The one last digit that it takes besides.
+// The one last digit that it takes besides. With the digit above as one answer, each caller would take the
+// two apart again.
 #[tactic(auto, unfolding(crate::specs::Tests::half_digit))]
 fn half_digit(format: u8) -> u8
     ensures { result ≡ half_digit format }

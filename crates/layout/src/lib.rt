@@ -71,7 +71,8 @@ impl Edition {
         }
     }
 
-    // How many columns its records have.
+    // How many columns its records have. This and the last element are constants of each edition, which
+    // document 01 asks for: of the three this picks one, and `last` the other.
     pub fn length(self) -> usize
         ensures { result ≡ length_of self }
     {

@@ -72,6 +72,7 @@ pub fn put(buffer: &mut [u8], at: usize, width: usize, numeral: Numeral)
 {
     let mut n = numeral.number;
     for k in (0..width).rev() {
+        // no From makes a byte of a wider number
         buffer[at + k] = (numeral.nought + n % numeral.base) as u8;
         n /= numeral.base;
     }

@@ -53,7 +53,7 @@ fn is_same_place(way: Way, figures: Figures, c: u32) -> bool
     is_one_place(place_at(way.from, figures), place_at(way.to, other))
 }
 
-// Does the digit keep tie 2?
+// Does the digit keep tie 2? Of numbers, where `octant_tie` of `ties` asks the texts, which may be blank.
 fn keeps_tie(edition: Edition, digit: u32, longitude: u32) -> bool
     ensures { result ≡ keeps_tie edition digit longitude }
 {
@@ -93,7 +93,8 @@ fn is_plain(latitude: u32, longitude: u32) -> bool
     latitude != 0 && longitude != 0 && longitude != 900 && longitude < 1800
 }
 
-// The quadrant of two hemispheres.
+// The quadrant of two hemispheres. This and the two tables of octants stand as the documents print them: as
+// data they would be three rows of digits, to be found by a sum of two flags.
 fn quadrant_of(south: bool, west: bool) -> u8
     ensures { result ≡ quadrant_of south west }
 {

@@ -38,7 +38,8 @@ pub enum Reading {
 }
 
 // What reading a record answers: its edition, and an entry for each of the 101 elements, the first for
-// element 1; or the refusal, and then every entry is missing.
+// element 1; or the refusal, and then every entry is missing. So the entries stand beside the answer, and not
+// in it: the theorem `only_one` says it of a refused record too.
 #[derive(Clone, Copy)]
 pub struct Readings {
     pub answer: Answer,
@@ -174,7 +175,7 @@ pub fn lead_of(e: usize) -> usize
     }
 }
 
-// Is it the sign of a temperature?
+// Is it the sign of a temperature? The elements are listed here, and the temperatures below, as on the page.
 pub fn is_sign(e: usize) -> bool
     ensures { result ≡ is_sign e }
 {

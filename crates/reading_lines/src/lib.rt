@@ -85,6 +85,7 @@ fn put_readings(sheet: &mut Sheet<'_>, count: &[u8], entries: [Reading; ELEMENTS
     ensures { Adds (reading_lines count.now 1 entries) 11312 sheet.old sheet.new }
 {
     for (k, reading) in entries.iter().enumerate() {
+        // there is no From for usize
         put_reading(sheet, count, k as u64 + 1, *reading);
     }
 }

@@ -44,7 +44,7 @@ fn hemisphere_of(way: Way, line: &[u8]) -> u8
     places::column_12::lowest_digit(way, figures)
 }
 
-// Column 111 in the target: the digit of its number.
+// Column 111 in the target: the digit of its number. No From makes a byte of a wider number.
 fn digit_of(edition: Edition) -> u8
     ensures { result ≡ digit_of edition }
 {

@@ -6,7 +6,7 @@
 ghost use Rattle.std.specs.Prelude.{◌≡◌, ◌^◌, ◌<◌};
 ghost use Rattle.signs.specs.Signed.{signed};
 
-// A number with its sign.
+// A number with its sign. No From makes it of a plain number, which may be too great; here it is not.
 pub fn signed_of(is_below: bool, n: u64) -> i64
     requires { n < 2 ^ 63 }
     ensures { result ≡ signed is_below n }

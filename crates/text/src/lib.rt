@@ -125,7 +125,7 @@ fn is_in_either(text: &[u8], a: u32, b: u32, c: u32, d: u32) -> bool
     digits_in(text).is_some_and(|n| is_either(n, a, b, c, d))
 }
 
-// Are these digits whose number is one of four?
+// Are these digits whose number is one of four? As the two before: the test differs, and stands here by name.
 fn is_one_of(text: &[u8], a: u32, b: u32, c: u32, d: u32) -> bool
     requires { length text.now ≤ 7 }
     ensures { result ≡ allows (LegalTexts.OneOf a b c d) text.now }

@@ -154,7 +154,8 @@ pub extern "C" fn trial_read(
     number
 }
 
-// Shows the call sign: its length, and its characters at the front of the buffer where there is room.
+// Shows the call sign: its length, as C takes it, and its characters at the front of the buffer where there
+// is room.
 #[unsafe(no_mangle)]
 pub extern "C" fn trial_show(line: &[u8], buffer: &mut [u8]) -> u64
     ensures value { result ≡ length (call_sign_of (checked line.now) line.now) }

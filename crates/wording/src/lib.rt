@@ -13,7 +13,7 @@ ghost use Rattle.wording.specs.Puts.{HasRoom, Adds};
 
 pub use sheet::Sheet;
 
-// How many decimal digits a number has.
+// How many decimal digits a number has. The loop divides, and counts no index.
 fn places(n: u64) -> usize
     ensures { result ≡ length (decimal n) }
 {
@@ -48,6 +48,7 @@ impl Sheet<'_> {
         let out = &mut *self.out;
         let mut left = n;
         for k in (0..width).rev() {
+            // no From makes a byte of a wider number
             out[at + k] = (48 + left % 10) as u8;
             left = left / 10;
         }

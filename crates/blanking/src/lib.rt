@@ -68,7 +68,8 @@ fn blank(row: &mut [u8], first: usize, last: usize, bytes: Span)
 // that both read it was slower to name what a record loses from 4 to 1: in a loop over the rows 276 ns
 // against 137, with rows as constants 128 against 88.
 
-// Blanks the codes of elements 40 and 41 that are lost.
+// Blanks the codes of elements 40 and 41 that are lost. The bool of this step and of those below is that of
+// its definition, `codes_lost` here: no step is taken where nothing of it is lost.
 fn blank_codes(row: &mut [u8], changed: bool)
     requires { 131 ≤ length row.old }
     ensures { row.new ≡ blanked (codes_lost changed) row.old }
@@ -105,7 +106,8 @@ fn blank_version(row: &mut [u8], back: bool)
     blank(row, 64, 64, Span(b'A', b'A'));
 }
 
-// Blanks the flags that are lost of those that every edition has.
+// Blanks the flags that are lost of those that every edition has: twenty, in three eights, of which the last
+// two share four.
 fn blank_flags(row: &mut [u8], back: bool)
     requires { 131 ≤ length row.old }
     ensures { row.new ≡ blanked (flags_lost back) row.old }

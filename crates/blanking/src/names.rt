@@ -1,5 +1,5 @@
 // The elements lost, named as a set of bits: element e is bit e - 1 of the first word, or bit e - 65 of
-// the second. The bits come from the bytes of the record, with no test for each element.
+// the second. The bits come from the bytes of the record, with no branch for each element.
 ghost use Rattle.std.specs.Prelude.{true, false, cond, ◌≡◌, ℕ, ◌+◌, ◌*◌, ◌^◌, ◌<◌, ◌≤◌, length};
 ghost use Rattle.text.specs.Bytes.{between};
 ghost use Rattle.element_sets.specs.ElementSets.{bits, set_of};

@@ -1,7 +1,8 @@
 // Bytes that follow one another.
 use std::marker::Model;
 
-// From the lowest of them to the highest.
+// From the lowest of them to the highest. No range of std: its test asks twice, and where a recast names what
+// it loses that was slower, 155 ns against 135.
 #[derive(Clone, Copy)]
 pub struct Span(pub u8, pub u8);
 

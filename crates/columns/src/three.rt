@@ -33,7 +33,7 @@ const COURSE: Table = Table {
     bond: *b"....==.==.=.=.==",
 };
 
-// Columns 143 to 159: hh, RWD, RWS and the last flags.
+// Columns 143 to 158, since one past the sixteen is looked at; 159 is asked apart: hh, RWD, RWS and the last flags.
 const LAST: Table = Table {
     low: *b"0000000000000000",
     high: *b"9999999995555555",

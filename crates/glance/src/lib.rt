@@ -2,7 +2,7 @@
 //
 // Most records are, and one look over them with hardly a branch is enough. First the columns, then the
 // numbers that have limits and the ties. A yes is proved; a no says nothing, and whoever asked has to
-// look for what is wrong. Each function but the last two answers true where something is.
+// look for what is wrong. A test answers true where something is.
 #![tactic(auto)]
 
 ghost use Rattle.std.specs.Prelude.{◌≡◌, true, false, not, ◌||◌, nat_le, ◌+◌, ◌≤◌, length};

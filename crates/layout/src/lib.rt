@@ -23,7 +23,7 @@ pub enum Edition {
 }
 
 impl Edition {
-    // Each edition has a length of its own, and a last element.
+    // The length of each edition and its last element. Those of 3 and 4 are alike.
     pub const LENGTH_1: usize = 131;
 
     pub const LENGTH_3: usize = LONGEST;
@@ -36,7 +36,8 @@ impl Edition {
 
     pub const LAST_4: usize = ELEMENTS;
 
-    // The edition that the character in column 111 names, if it names one.
+    // The edition that the character in column 111 names, if it names one. No TryFrom, here and below: of a
+    // byte and of a number it would differ by their types alone, and 1 as a byte names no edition.
     pub fn of_digit(b: u8) -> Option<Edition>
         ensures { result ≡ edition_of b }
     {

@@ -1,7 +1,7 @@
 // The columns of the elements: every column that the code speaks of is looked up here.
 //
-// A caller names an element and gets its columns, and no start stands anywhere else as a number. Where the
-// number of the element stands in the code, the compiler does the looking up.
+// A caller names an element and gets its columns, and no element's start stands anywhere else as a number.
+// Where the number of the element stands in the code, the compiler does the looking up.
 ghost use Rattle.std.specs.Prelude.{◌≡◌};
 ghost use Rattle.layout.specs.Page.{width_of, start_of};
 

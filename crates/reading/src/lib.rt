@@ -226,7 +226,7 @@ fn alone_of(e: usize, text: &[u8]) -> Reading
 }
 
 // The elements of one column that share their reading with no other and may read as a code, a bit each:
-// those up to 63, and those from 64 on.
+// those up to 63, and those from 64 on. They are no set of elements: of one word a shift tells.
 const SINGLE_0: u64 = 0xf8d2_e3a0_cfc0_5602;
 
 const SINGLE_64: u64 = 0x003f_c07f_ffff;

@@ -50,7 +50,7 @@ impl Refusal {
         }
     }
 
-    // The place that goes with it.
+    // The place that goes with it, for the calls for C. There is no From for usize.
     pub fn place(self) -> u64
         ensures { result ≡ where_of self }
     {
@@ -71,7 +71,7 @@ impl Refusal {
 // What a call says of what it was given.
 pub type Verdict = Result<(), Refusal>;
 
-// The number of the refusal, 0 where there is none.
+// The number of the refusal, 0 where there is none: so the calls for C answer, and with the place below too.
 pub fn number_of(verdict: Verdict) -> u64
     ensures { result ≡ verdict_number verdict }
 {

@@ -39,7 +39,8 @@ fn write_all<W: Write>(to: &mut W, bytes: &[u8]) -> Result<(), Failure> {
     to.write_all(bytes).map_err(|_| Failure::Unwritten)
 }
 
-// Feeds a piece to the run, and writes what it says.
+// Feeds a piece to the run, and writes what it says. A turn takes what `out` has room for, so that there is
+// nothing to count.
 fn feed_all<W: Write>(to: &mut W, run: Run, piece: &[u8], out: &mut [u8]) -> Result<Run, Failure>
     requires { record_most ≤ length out.old }
 {

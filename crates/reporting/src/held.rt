@@ -5,7 +5,7 @@ ghost use Rattle.reporting.specs.Run.{held_most};
 use crate::HELD;
 use std::marker::Model;
 
-// The bytes that are held, and how many they are.
+// The bytes that are held, and how many they are, in fixed memory and by std alone.
 #[derive(Drop)]
 pub struct Held {
     bytes: [u8; HELD],

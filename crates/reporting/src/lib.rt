@@ -69,8 +69,8 @@ struct Taking {
     held: Held,
 }
 
-// What feeding a piece leads to: the run after it, how many bytes of the piece were taken, and how many
-// were written.
+// What feeding a piece leads to, in three answers: the run after it, how many bytes of the piece were taken,
+// and how many were written.
 #[derive(Clone, Copy)]
 pub struct Fed {
     pub run: Run,

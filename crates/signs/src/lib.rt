@@ -1,4 +1,4 @@
-// Numbers with a sign, made of one and a plain number.
+// Numbers with a sign, made of a sign and a plain number.
 //
 // All arithmetic is on plain numbers; signed ones are made here and nowhere else.
 #![tactic(auto)]

@@ -16,7 +16,7 @@ use numerals::Numeral;
 use places::Place;
 use reading::{Kind, Reading};
 
-// Are two readings the same in every part?
+// Are two readings the same in every part? Its definition says which parts, and four edits stand on it.
 pub fn is_same(a: Reading, b: Reading) -> bool
     ensures { result ≡ same a b }
 {

@@ -128,7 +128,7 @@ fn day_tie(line: &[u8]) -> bool
 // The number of the last tie.
 const LAST: usize = 10;
 
-// Does tie k hold?
+// Does tie k hold? A tie goes by its number, which is the place of refusal 7.
 #[tactic(auto, unfolding(crate::specs::Ties::tie))]
 fn holds(edition: Edition, line: &[u8], k: usize) -> bool
     ensures { result ≡ tie edition line.now k }

@@ -33,12 +33,12 @@ lines_next count e (suc k) (r ∷ rs) h =
 
 -- a line is the element, what it reads as, and the end of a line
 pub as_line : (count : List ℕ) (e : ℕ) (r : Reading) → (r ≡ Missing → ⊥) → element_of count e ++ reading_words r ++ line_end ≡ reading_line count e r
-unfolding reading_line reading_words
+unfolding reading_line
 as_line count e Missing h = absurd (h refl)
-as_line count e (Code v) h = simp append_assoc
-as_line count e (Text v) h = simp append_assoc
-as_line count e (Amount a kind) h = simp append_assoc
-as_line count e (At place) h = simp append_assoc
+as_line count e (Code v) h = refl
+as_line count e (Text v) h = refl
+as_line count e (Amount a kind) h = refl
+as_line count e (At place) h = refl
 
 pub no_line : (count : List ℕ) (e : ℕ) (s : Sheet) → Adds (reading_line count e Missing) line_most s s
 unfolding reading_line

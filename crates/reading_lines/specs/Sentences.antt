@@ -34,13 +34,13 @@ reading_words (Text v) = numbered (bytes_of " text ") v
 reading_words (Amount a kind) = bytes_of " amount " ++ signed_decimal a ++ kind_words kind
 reading_words (At place) = bytes_of " place " ++ signed_decimal place.latitude ++ numbered (bytes_of " ") place.longitude ++ numbered (bytes_of " ") place.digit
 
+-- the line of an element: the record's count and the element before its words; no line where it is missing
 unfoldable pub reading_line : List ℕ → ℕ → Reading → List ℕ
 reading_line count e Missing = []
-reading_line count e (Code v) = element_of count e ++ numbered (bytes_of " code ") v ++ line_end
-reading_line count e (Text v) = element_of count e ++ numbered (bytes_of " text ") v ++ line_end
-reading_line count e (Amount a kind) = element_of count e ++ bytes_of " amount " ++ signed_decimal a ++ kind_words kind ++ line_end
-reading_line count e (At place) =
-    element_of count e ++ bytes_of " place " ++ signed_decimal place.latitude ++ numbered (bytes_of " ") place.longitude ++ numbered (bytes_of " ") place.digit ++ line_end
+reading_line count e (Code v) = element_of count e ++ reading_words (Code v) ++ line_end
+reading_line count e (Text v) = element_of count e ++ reading_words (Text v) ++ line_end
+reading_line count e (Amount a kind) = element_of count e ++ reading_words (Amount a kind) ++ line_end
+reading_line count e (At place) = element_of count e ++ reading_words (At place) ++ line_end
 
 -- the lines of elements, from e on
 unfoldable pub reading_lines : List ℕ → ℕ → List Reading → List ℕ

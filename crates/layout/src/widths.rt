@@ -1,116 +1,94 @@
-// The columns of the elements: every column that the code speaks of is looked up here.
+// The widths of the elements, the one list of the code: every column is worked out from it.
 //
-// A caller names an element and gets its columns, and no element's start stands anywhere else as a number.
-// Where the number of the element stands in the code, the compiler does the looking up.
+// A caller names an element and gets its columns, and no start stands anywhere as a number. The compiler works
+// out a table of them, and where the number of the element stands in the code, it does the looking up too.
 ghost use Rattle.std.specs.Prelude.{◌≡◌};
 ghost use Rattle.layout.specs.Page.{width_of, start_of};
 
 use crate::{ELEMENTS, LONGEST};
 
-// Of each element from 0, which is none, to 101: how many columns stand before it, and how many it has.
-const COLUMNS: [(u8, u8); ELEMENTS + 1] = [
-    (0, 0),
-    (0, 1),
-    (1, 4),
-    (5, 2),
-    (7, 2),
-    (9, 2),
-    (11, 1),
-    (12, 3),
-    (15, 4),
-    (19, 1),
-    (20, 1),
-    (21, 2),
-    (23, 1),
-    (24, 2),
-    (26, 1),
-    (27, 2),
-    (29, 1),
-    (30, 3),
-    (33, 1),
-    (34, 3),
-    (37, 4),
-    (41, 2),
-    (43, 1),
-    (44, 1),
-    (45, 1),
-    (46, 1),
-    (47, 1),
-    (48, 1),
-    (49, 1),
-    (50, 3),
-    (53, 1),
-    (54, 1),
-    (55, 2),
-    (57, 2),
-    (59, 2),
-    (61, 2),
-    (63, 2),
-    (65, 1),
-    (66, 2),
-    (68, 1),
-    (69, 1),
-    (70, 1),
-    (71, 7),
-    (78, 2),
-    (80, 1),
-    (81, 1),
-    (82, 1),
-    (83, 1),
-    (84, 3),
-    (87, 1),
-    (88, 1),
-    (89, 3),
-    (92, 1),
-    (93, 3),
-    (96, 1),
-    (97, 1),
-    (98, 2),
-    (100, 2),
-    (102, 2),
-    (104, 1),
-    (105, 1),
-    (106, 1),
-    (107, 1),
-    (108, 1),
-    (109, 1),
-    (110, 1),
-    (111, 1),
-    (112, 1),
-    (113, 1),
-    (114, 1),
-    (115, 1),
-    (116, 1),
-    (117, 1),
-    (118, 1),
-    (119, 1),
-    (120, 1),
-    (121, 1),
-    (122, 1),
-    (123, 1),
-    (124, 1),
-    (125, 1),
-    (126, 1),
-    (127, 1),
-    (128, 1),
-    (129, 1),
-    (130, 1),
-    (131, 1),
-    (132, 3),
-    (135, 3),
-    (138, 2),
-    (140, 2),
-    (142, 3),
-    (145, 3),
-    (148, 3),
-    (151, 1),
-    (152, 1),
-    (153, 1),
-    (154, 1),
-    (155, 1),
-    (156, 1),
-    (157, 1),
-    (158, 1),
+// Eight elements a row, two hexadecimal digits for each, from 0, which is none, to 101.
+const WIDTHS_0: u64 = 0x00_01_04_02_02_02_01_03;
+
+const WIDTHS_8: u64 = 0x04_01_01_02_01_02_01_02;
+
+const WIDTHS_16: u64 = 0x01_03_01_03_04_02_01_01;
+
+const WIDTHS_24: u64 = 0x01_01_01_01_01_03_01_01;
+
+const WIDTHS_32: u64 = 0x02_02_02_02_02_01_02_01;
+
+const WIDTHS_40: u64 = 0x01_01_07_02_01_01_01_01;
+
+const WIDTHS_48: u64 = 0x03_01_01_03_01_03_01_01;
+
+const WIDTHS_56: u64 = 0x02_02_02_01_01_01_01_01;
+
+const WIDTHS_64: u64 = 0x01_01_01_01_01_01_01_01;
+
+const WIDTHS_72: u64 = 0x01_01_01_01_01_01_01_01;
+
+const WIDTHS_80: u64 = 0x01_01_01_01_01_01_01_03;
+
+const WIDTHS_88: u64 = 0x03_02_02_03_03_03_01_01;
+
+const WIDTHS_96: u64 = 0x01_01_01_01_01_01_00_00;
+
+// The columns before each row. A row divided by 255 leaves the sum of its digits, since each place counts 256
+// times the next and the sum is less than 255.
+const BEFORE_0: u64 = 0;
+
+const BEFORE_8: u64 = BEFORE_0 + WIDTHS_0 % 255;
+
+const BEFORE_16: u64 = BEFORE_8 + WIDTHS_8 % 255;
+
+const BEFORE_24: u64 = BEFORE_16 + WIDTHS_16 % 255;
+
+const BEFORE_32: u64 = BEFORE_24 + WIDTHS_24 % 255;
+
+const BEFORE_40: u64 = BEFORE_32 + WIDTHS_32 % 255;
+
+const BEFORE_48: u64 = BEFORE_40 + WIDTHS_40 % 255;
+
+const BEFORE_56: u64 = BEFORE_48 + WIDTHS_48 % 255;
+
+const BEFORE_64: u64 = BEFORE_56 + WIDTHS_56 % 255;
+
+const BEFORE_72: u64 = BEFORE_64 + WIDTHS_64 % 255;
+
+const BEFORE_80: u64 = BEFORE_72 + WIDTHS_72 % 255;
+
+const BEFORE_88: u64 = BEFORE_80 + WIDTHS_80 % 255;
+
+const BEFORE_96: u64 = BEFORE_88 + WIDTHS_88 % 255;
+
+// A row of the table: of each of its elements how many columns stand before it, which is the sum of the digits
+// before its own, and how many it has, which is its own.
+macro_rules! row {
+    ($before:ident, $widths:ident) => { row!($before, $widths; 56 48 40 32 24 16 8 0) };
+    ($before:ident, $widths:ident; $($after:literal)*) => {
+        [$((
+            ($before + ($widths >> $after >> 8) % 255) as u8,
+            (($widths >> $after) % 256) as u8,
+        )),*]
+    };
+}
+
+// The table, eight elements a row as the widths are.
+const COLUMNS: [[(u8, u8); 8]; 13] = [
+    row!(BEFORE_0, WIDTHS_0),
+    row!(BEFORE_8, WIDTHS_8),
+    row!(BEFORE_16, WIDTHS_16),
+    row!(BEFORE_24, WIDTHS_24),
+    row!(BEFORE_32, WIDTHS_32),
+    row!(BEFORE_40, WIDTHS_40),
+    row!(BEFORE_48, WIDTHS_48),
+    row!(BEFORE_56, WIDTHS_56),
+    row!(BEFORE_64, WIDTHS_64),
+    row!(BEFORE_72, WIDTHS_72),
+    row!(BEFORE_80, WIDTHS_80),
+    row!(BEFORE_88, WIDTHS_88),
+    row!(BEFORE_96, WIDTHS_96),
 ];
 
 // How many columns element e has.
@@ -120,7 +98,7 @@ pub fn width_of(e: usize) -> usize
     if ELEMENTS < e {
         return 0;
     }
-    usize::from(COLUMNS[e].1)
+    usize::from(COLUMNS[e / 8][e % 8].1)
 }
 
 // How many columns stand before element e.
@@ -130,5 +108,5 @@ pub fn start_of(e: usize) -> usize
     if ELEMENTS < e {
         return LONGEST;
     }
-    usize::from(COLUMNS[e].0)
+    usize::from(COLUMNS[e / 8][e % 8].0)
 }

@@ -1,13 +1,12 @@
 -- The worked cases of document 01 and of the requests: how the record of a case is made, what is asked of it, and what is answered by the calls' own definitions.
 -- Assumes nothing.
-use Rattle.std.specs.Prelude.{ℕ, ◌-◌, List, [], length, Ok, Err}
+use Rattle.std.specs.Prelude.{ℕ, ◌-◌, List, [], length}
 use Prim.Native.String.{String}
 use Rattle.text.specs.Bytes.{bytes_of}
 use Rattle.numerals.specs.Numerals.{placed, spelled}
 use Rattle.element_sets.specs.ElementSets.{list_of, has_element}
 use Rattle.checking.specs.Check.{Answer}
 use Rattle.refusals.specs.Verdicts.{Verdict}
-use Rattle.refusals.specs.Refusals.{number_of, where_of}
 use Rattle.refusals.specs.Verdicts.{verdict_number, verdict_place}
 use Rattle.refusals.specs.Lent.{verdict_in, left_by}
 use Rattle.checking.specs.Check.{checked, answer_verdict}
@@ -16,7 +15,7 @@ use Rattle.reading.specs.declared.Reading.TheVariants.{Missing}
 use Rattle.reading.specs.declared.Readings.{Readings}
 use Rattle.reading.specs.Answers.{read_of, read_as}
 use Rattle.writing.specs.Written.{written}
-use Rattle.recasting.specs.Recast.{blanks, recast_of, Outcome, outcome_in}
+use Rattle.recasting.specs.Recast.{blanks, recast_of, Outcome, outcome_in, verdict_said, losses_said}
 
 -- a record with a text from column c on
 unfoldable pub at : ℕ → String → List ℕ → List ℕ
@@ -73,8 +72,7 @@ abbrev pub of_readings : Readings → ℕ → Result
 of_readings all e = result (verdict_number (answer_verdict all.answer)) (verdict_place (answer_verdict all.answer)) (read_as all.entries e) [] []
 
 abbrev pub of_outcome : Outcome → List ℕ → Result
-of_outcome (Ok losses) left = result 0 0 Missing (list_of (has_element losses)) left
-of_outcome (Err r) left = result (number_of r) (where_of r) Missing [] left
+of_outcome o left = result (verdict_number (verdict_said o)) (verdict_place (verdict_said o)) Missing (list_of (has_element (losses_said o))) left
 
 abbrev pub of_verdict : Verdict → List ℕ → Result
 of_verdict v left = result (verdict_number v) (verdict_place v) Missing [] left

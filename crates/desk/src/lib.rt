@@ -6,10 +6,10 @@
 
 ghost use Rattle.std.specs.Prelude.{◌≡◌, length};
 ghost use Rattle.refusals.specs.Verdicts.{verdict_number, verdict_place};
-ghost use Rattle.refusals.specs.Lent.{in_room, verdict_in, left_by};
+ghost use Rattle.refusals.specs.Lent.{left_by};
 ghost use Rattle.checking.specs.Check.{answer_verdict};
 ghost use Rattle.reading.specs.Answers.{read_of};
-ghost use Rattle.recasting.specs.Recast.{recast_of, losses_in};
+ghost use Rattle.recasting.specs.Recast.{recast_of, outcome_in, verdict_said, losses_said};
 
 use element_sets::ElementSet;
 
@@ -41,10 +41,10 @@ pub extern "C" fn immt_recast(
     lost_low: &mut u64,
     lost_high: &mut u64,
 ) -> u64
-    ensures value { result ≡ verdict_number (verdict_in (length buffer.old) (recast_of line.now edition)) }
-    ensures place_after { place.new ≡ verdict_place (verdict_in (length buffer.old) (recast_of line.now edition)) }
-    ensures lost_low_after { lost_low.new ≡ (losses_in (in_room (length buffer.old) (recast_of line.now edition))).low }
-    ensures lost_high_after { lost_high.new ≡ (losses_in (in_room (length buffer.old) (recast_of line.now edition))).high }
+    ensures value { result ≡ verdict_number (verdict_said (outcome_in (length buffer.old) (recast_of line.now edition))) }
+    ensures place_after { place.new ≡ verdict_place (verdict_said (outcome_in (length buffer.old) (recast_of line.now edition))) }
+    ensures lost_low_after { lost_low.new ≡ (losses_said (outcome_in (length buffer.old) (recast_of line.now edition))).low }
+    ensures lost_high_after { lost_high.new ≡ (losses_said (outcome_in (length buffer.old) (recast_of line.now edition))).high }
     ensures buffer_after { buffer.new ≡ left_by (recast_of line.now edition) buffer.old }
 {
     let outcome = recasting::recast(line, edition, buffer);

@@ -31,7 +31,7 @@ use Rattle.checking.proofs.Demand1Refusals.{fits, only_one}
 use Rattle.checking.proofs.Demand2Acceptance.{accepted_exactly}
 use Rattle.meanings.specs.Meaning.{meaning_of}
 use Rattle.meanings.specs.Kept.{lost_at}
-use Rattle.recasting.specs.Recast.{digit_of, recast_record, recast_to, recast_after, recast_of, losses_in, Outcome, outcome_of, outcome_in, done, unrecast}
+use Rattle.recasting.specs.Recast.{digit_of, recast_record, recast_to, recast_after, recast_of, losses_in, Outcome, outcome_of, outcome_in, verdict_said, losses_said, done, unrecast}
 use Rattle.meanings.specs.Lost.{Expressible}
 use Rattle.recasting.specs.Fits.{Names, Fits, refused, unheld, cramped, recast}
 use Rattle.recasting.proofs.ResultLaws.{result_long}
@@ -113,15 +113,20 @@ module _ (from to : Edition) (xs : List ℕ) (edition : ℕ) (before : List ℕ)
           ap (λ (n : ℕ). drop n before) long;
     }
 
+-- what an outcome says is what the call comes to: its verdict, and the elements lost
+pub verdict_told : (c : Call ElementSet) → verdict_said (outcome_of c) ≡ verdict_of c
+verdict_told (refusing r) = refl
+verdict_told (writing losses bytes) = refl
+
+pub losses_told : (c : Call ElementSet) → losses_said (outcome_of c) ≡ losses_in c
+losses_told (refusing r) = refl
+losses_told (writing losses bytes) = refl
+
 -- a call that succeeds has done what demand 3 says
 pub success : (xs : List ℕ) (edition : ℕ) (before : List ℕ) (losses : ElementSet) → outcome_in (length before) (recast_of xs edition) ≡ done losses → Success xs edition before losses
 unfolding recast_after recast_to
-success xs edition before losses d = by (checked xs) refl (asked edition) refl (fine_means (length before) (recast_of xs edition) (fine (in_room (length before) (recast_of xs edition)) d))
+success xs edition before losses d = by (checked xs) refl (asked edition) refl (fine_means (length before) (recast_of xs edition) (sym (verdict_told (in_room (length before) (recast_of xs edition))) ∙ ap verdict_said d))
   where
-    fine : (c : Call ElementSet) → outcome_of c ≡ done losses → verdict_of c ≡ (Ok tt)
-    fine (refusing r) e = cc
-    fine (writing a bytes) e = refl
-
     by : (c : Answer) → checked xs ≡ c → (n : Option Edition) → asked edition ≡ n → Wrote (recast_of xs edition) (length before) → Success xs edition before losses
     by (Err r) e n f w = let g : refusing r ≡ writing w.says w.bytes = rw e at w.is in let z : ◌≡◌ {A = ℕ} 0 1 = cc in absurd (omega arith)
     by (Ok from) e None f w = let g : refusing Unheld ≡ writing w.says w.bytes = rw (e, f) at w.is in let z : ◌≡◌ {A = ℕ} 0 1 = cc in absurd (omega arith)
@@ -135,18 +140,11 @@ success xs edition before losses d = by (checked xs) refl (asked edition) refl (
 
 -- a refused call leaves the lent buffer as it was, and its loss set is empty
 pub refused_untouched : (xs : List ℕ) (edition : ℕ) (before : List ℕ) (r : Refusal) → outcome_in (length before) (recast_of xs edition) ≡ unrecast r →
-    (after xs edition before ≡ before) × (losses_in (in_room (length before) (recast_of xs edition)) ≡ no_elements)
+    (after xs edition before ≡ before) × ((losses_said (outcome_in (length before) (recast_of xs edition)) ≡ no_elements) × (losses_in (in_room (length before) (recast_of xs edition)) ≡ no_elements))
 refused_untouched xs edition before r e =
     let c = in_room (length before) (recast_of xs edition) in
-    (Lent.refused_untouched (recast_of xs edition) before r (verdict c e), none c e)
-  where
-    verdict : (c : Call ElementSet) → outcome_of c ≡ unrecast r → verdict_of c ≡ Err r
-    verdict (refusing s) f = let same : s ≡ r = cc in ap Err same
-    verdict (writing a bytes) f = cc
-
-    none : (c : Call ElementSet) → outcome_of c ≡ unrecast r → losses_in c ≡ no_elements
-    none (refusing s) f = refl
-    none (writing a bytes) f = cc
+    let none : losses_said (outcome_of c) ≡ no_elements = ap losses_said e in
+    (Lent.refused_untouched (recast_of xs edition) before r (sym (verdict_told c) ∙ ap verdict_said e), (none, sym (losses_told c) ∙ none))
 
 -- what is answered fits, and nothing else does
 module _ (xs : List ℕ) (edition : ℕ) (before : List ℕ) where

@@ -8,6 +8,7 @@ use Rattle.element_sets.specs.declared.ElementSet.{ElementSet}
 use Rattle.layout.specs.declared.Edition.{Edition}
 use Rattle.refusals.specs.declared.Refusal.{Refusal}
 use Rattle.refusals.specs.declared.Refusal.TheVariants.{Unheld}
+use Rattle.refusals.specs.Verdicts.{Verdict}
 use Rattle.refusals.specs.Lent.{Call, refusing, writing, in_room}
 use Rattle.layout.specs.Editions.{asked, edition_number, longest_record}
 use Rattle.layout.specs.Page.{width_of, text_of}
@@ -75,6 +76,15 @@ outcome_of (writing losses bytes) = Ok losses
 
 abbrev pub outcome_in : ℕ → Call ElementSet → Outcome
 outcome_in room call = outcome_of (in_room room call)
+
+-- what an outcome says: its verdict, and the elements lost
+abbrev pub verdict_said : Outcome → Verdict
+verdict_said (Ok losses) = Ok tt
+verdict_said (Err r) = Err r
+
+abbrev pub losses_said : Outcome → ElementSet
+losses_said (Ok losses) = losses
+losses_said (Err r) = no_elements
 
 -- the outcome of a record that is recast, and of one that is refused
 abbrev pub done : ElementSet → Outcome

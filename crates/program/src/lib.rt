@@ -25,6 +25,9 @@ fn open_again(rt: &HostRuntime, descriptor: &str) -> io::Result<File> {
     OpenOptions::new().append(true).open(rt, descriptor)
 }
 
+// Room for the words about a failure.
+const WORDS: usize = 64;
+
 // Was the program started with a word?
 fn has_word(rt: &HostRuntime) -> bool {
     !matches!(rt.arg(1, &mut [0u8; 1]), Err(FillError::NotPresent))
@@ -34,16 +37,21 @@ fn has_word(rt: &HostRuntime) -> bool {
 fn say_end(rt: &HostRuntime, end: &[u8]) {
     if has_word(rt) {
         if let Ok(mut file) = open_again(rt, END) {
-            let _ = file.write_all(end);
+            let _ = report_run::write_all(&mut file, end);
         }
     }
 }
 
-// Says what failed, in one line.
+// Says what failed, in one line. What failed goes out in one write, so that no other program's words come
+// into the middle of it.
 fn say_failure(rt: &HostRuntime, name: &[u8], failure: Failure) {
+    let mut line = [0u8; WORDS];
+    let mut rest = &mut line[..];
+    let _ = writeln!(rest, ": {failure}");
+    let end = WORDS.saturating_sub(rest.len());
     let mut to = rt.stderr();
-    let _ = to.write_all(name);
-    let _ = writeln!(to, ": {failure}");
+    let _ = report_run::write_all(&mut to, name);
+    let _ = report_run::write_all(&mut to, &line[..end]);
 }
 
 // Is standard output a file?

@@ -34,9 +34,19 @@ impl fmt::Display for Failure {
     }
 }
 
-// Writes all of the bytes. Of a write that fails some may have been written, and stay so.
-fn write_all<W: Write>(to: &mut W, bytes: &[u8]) -> Result<(), Failure> {
-    to.write_all(bytes).map_err(|_| Failure::Unwritten)
+// Writes all of the bytes, or stops at the first write that takes nothing or fails, when some of them may have
+// been written. Not std's, which tries a write again that a signal interrupts: who lends the output has then
+// asked for its end.
+pub fn write_all<W: Write>(to: &mut W, bytes: &[u8]) -> Result<(), Failure> {
+    let mut rest = bytes;
+    while !rest.is_empty() {
+        let count = to.write(rest).map_err(|_| Failure::Unwritten)?;
+        if count == 0 {
+            return Err(Failure::Unwritten);
+        }
+        rest = &rest[count..];
+    }
+    Ok(())
 }
 
 // Feeds a piece to the run, and writes what it says. A turn takes what `out` has room for, so that there is

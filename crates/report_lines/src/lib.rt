@@ -31,7 +31,8 @@ pub fn put_accepted(sheet: &mut Sheet<'_>, count: u64, edition: Edition)
     sheet.put_text(b"\n");
 }
 
-// Puts the line of a record's call sign, or none where it is empty.
+// Puts the line of a record's call sign, or none where it is empty. The sign is copied first: of bytes that it
+// cannot tell from the sheet's own, the compiler asks which way round they are to be moved.
 pub fn put_call_sign(sheet: &mut Sheet<'_>, count: u64, sign: &[u8])
     requires { HasRoom line_most sheet.old × (length sign.now ≤ 7) }
     ensures { Adds (call_sign_line count sign.now) line_most sheet.old sheet.new }
@@ -39,9 +40,12 @@ pub fn put_call_sign(sheet: &mut Sheet<'_>, count: u64, sign: &[u8])
     if sign.is_empty() {
         return;
     }
+    let mut room = [0u8; 7];
+    let own = &mut room[..sign.len()];
+    own.copy_from_slice(sign);
     sheet.put_number(count);
     sheet.put_text(b" call sign ");
-    sheet.put_text(sign);
+    sheet.put_text(own);
     sheet.put_text(b"\n");
 }
 

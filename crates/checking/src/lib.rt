@@ -4,7 +4,8 @@
 // it is the answer. `checked` of specs/Check.antt says which answer.
 #![tactic(auto)]
 
-ghost use Rattle.std.specs.Prelude.{◌≡◌, ◌≤◌, length};
+ghost use Rattle.std.specs.Prelude.{◌≡◌, ◌&&◌, ◌≤◌, true, length};
+ghost use Rattle.std.specs.List.{fold};
 ghost use Rattle.text.specs.Bytes.{printable};
 ghost use Rattle.text.specs.First.{first_of, nonzero};
 ghost use Rattle.layout.specs.Editions.{length_of};
@@ -44,13 +45,29 @@ fn is_known_format(b: u8) -> bool
     matches!(b, b'3'..=b'5')
 }
 
-// The lowest column that holds no printable character.
+// Is every byte printable? Each is looked at, whatever those before it are, so that the processor takes all of
+// sixteen at once.
+fn are_printable(line: &[u8]) -> bool
+    ensures { result ≡ fold (λ all byte. all && printable byte) true line.now }
+{
+    line.iter().fold(true, |all, b| all & is_printable(*b))
+}
+
+// The lowest column that holds no printable character. Sixteen columns are passed over at a time, as long as
+// all of them are printable.
 fn first_unprintable(line: &[u8]) -> Option<usize>
     ensures { result ≡ nonzero (first_of (length line.now) (printable_at line.now)) }
 {
-    for (at, &b) in line.iter().enumerate() {
-        if !is_printable(b) {
-            return Some(at + 1);
+    let mut at = 0;
+    while 16 <= line.len() - at {
+        if !are_printable(&line[at..at + 16]) {
+            break;
+        }
+        at += 16;
+    }
+    for c in at + 1..line.len() + 1 {
+        if !is_printable(line[c - 1]) {
+            return Some(c);
         }
     }
     None

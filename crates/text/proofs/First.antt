@@ -37,6 +37,18 @@ module _ (p : ℕ → Bool) (n : ℕ) where
     unfolding first_from
     end h = rw (none_left n k h)
 
+-- places at which the test passes are passed over
+pub passed : (p : ℕ → Bool) (k m n : ℕ) → ((j : ℕ) → k ≤ j → j < k + m → p j ≡ true) → first_from p k (m + n) ≡ first_from p (k + m) n
+unfolding first_from
+passed p k zero n f =
+    let a : 0 + n ≡ n = omega arith in
+    let b : k + 0 ≡ k = omega arith in
+    rw (a, b) refl
+passed p k (suc m) n f =
+    let a : suc m + n ≡ suc (m + n) = omega arith in
+    let b : k + suc m ≡ suc k + m = omega arith in
+    rw (a, b, f k (le_refl k) (omega arith)) (passed p (suc k) m n (λ j h l. f j (omega arith) (omega arith)))
+
 -- tests that answer the same at every place find the same place
 pub same_first : (p q : ℕ → Bool) → ((j : ℕ) → p j ≡ q j) → (k n : ℕ) → first_from p k n ≡ first_from q k n
 unfolding first_from

@@ -21,5 +21,8 @@ pub fn find(bytes: &[u8], at: usize, byte: u8) -> usize
     ensures within { result ≤ length bytes.now }
 {
     let rest = &bytes[at..];
-    at + rest.iter().position(|b| *b == byte).unwrap_or(rest.len())
+    match rest.iter().position(|b| *b == byte) {
+        Some(n) => at + n,
+        None => bytes.len(),
+    }
 }

@@ -7,7 +7,7 @@ use native.Mathlib.Omega.{arith}
 use lib.ListN.{length}
 use Rattle.wording.specs.declared.sheet.Sheet.{Sheet}
 use Rattle.wording.specs.Puts.{Adds}
-use Rattle.wording.proofs.PutLaws.{then, unchanged, within}
+use Rattle.wording.proofs.PutLaws.{then_at, unchanged, within}
 use Rattle.report_lines.specs.Says.{line_most, record_most}
 use Rattle.reporting.specs.declared.Ledger.{Ledger}
 use Rattle.reporting.specs.declared.Run.{Run}
@@ -43,13 +43,13 @@ module _ (l : Ledger) where
   rest_line (b ∷ held) some e t = (t.next ∙ ap (ledger_after l) e, rw e at t.said)
 
 -- the line that has no end is taken, and what is said last is put
-pub finished : (run : Run) {taking : Taking} {after : List ℕ} {before now last : Sheet} {l : Ledger} {b : Bool} → seen taking ≡ view run → before.end ≡ 0 → closing_most ≤ length before.out.now → after ≡ last.out.now → l ≡ end_of (seen taking) →
-    Adds (rest_said (seen taking)) record_most before now → Adds (last_words l) line_most now last → b ≡ has_refused l →
+pub finished : (run : Run) {taking : Taking} {after : List ℕ} {before now from last : Sheet} {l : Ledger} {b : Bool} → seen taking ≡ view run → before.end ≡ 0 → closing_most ≤ length before.out.now → after ≡ last.out.now → l ≡ end_of (seen taking) →
+    Adds (rest_said (seen taking)) record_most before now → from.end ≡ now.end → from.out ≡ now.out → Adds (last_words l) line_most from last → b ≡ has_refused l →
     Finishes run before.out.now after (record { written = last.end; refused = b })
-finished run {last = last} same z room back f t q g =
+finished run {last = last} same z room back f t i o q g =
     let e = rw same at f in
     let p = rw same at t in
-    let all = then p q in
+    let all = then_at p i o q in
     record {
       room = omega (arith, last.within, all.same_length);
       said = λ k. rw (closing_parts (view run), ← e, ← z, back) all.puts;

@@ -15,6 +15,7 @@ use Rattle.wording.specs.declared.sheet.Sheet.{Sheet}
 use Rattle.wording.specs.Puts.{Adds}
 use Rattle.report_lines.specs.Says.{line_most, Says}
 use Rattle.reporting.specs.declared.Job.{Job}
+use Rattle.reporting.specs.declared.Stage.{Stage}
 use Rattle.reporting.specs.declared.Stage.TheVariants.{Asking, Closed, Telling}
 use Rattle.reporting.specs.declared.Ledger.{Ledger}
 use Rattle.reporting.specs.Report.{said_for, refused_for, asked_by}
@@ -49,14 +50,14 @@ unfolding ledger_after said_of
 first_tells l line w e a p = record { next = rw (e, a); said = rw (e, ← a) (within (omega arith) p) }
 
 -- a record is counted, and told with its count
-pub record_tells : (l : Ledger) (line : List ℕ) {before after : Sheet} (job : Job) (count : ℕ) (b : Bool) (k : ℕ) → l.stage ≡ Telling job →
+pub record_tells : (l : Ledger) (line : List ℕ) {before after : Sheet} (job : Job) (count : ℕ) (b : Bool) (k : ℕ) {stage : Stage} → l.stage ≡ Telling job → stage ≡ l.stage →
     l.records ≤ 18446744073709551615 → l.refused ≤ 18446744073709551615 → count ≡ min (l.records + 1) 18446744073709551615 → k ≡ min (l.refused + from_bool b) 18446744073709551615 →
-    Says (said_for job count line) (refused_for job line) before after b → Tells l line before after (ledger l.stage count k)
+    Says (said_for job count line) (refused_for job line) before after b → Tells l line before after (ledger stage count k)
 unfolding ledger_after said_of
-record_tells l line job count b k e h i f g p =
+record_tells l line job count b k e s h i f g p =
     let counted : count ≡ one_more l.records = f ∙ next l.records h in
     let refused : k ≡ refused_after b l.refused = g ∙ next_refused b l.refused i in
-    record { next = rw (e, counted, refused, p.refuses); said = rw (e, ← counted) p.adds }
+    record { next = rw (s, e, counted, refused, p.refuses); said = rw (e, ← counted) p.adds }
 
 -- nothing is said any more
 pub closed_tells : (l : Ledger) (line : List ℕ) (s : Sheet) → l.stage ≡ Closed → Tells l line s s l

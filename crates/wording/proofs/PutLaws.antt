@@ -33,15 +33,20 @@ front {text} {before} {after} {end} p =
 pub nothing : (at : ℕ) (before : List ℕ) → Puts [] at before before at
 nothing at before = record { stands = sym (placed_none at before); ends = omega arith }
 
--- a text on a sheet, and another right after it; there is no need to look into a sheet for that
-pub then : {t u : List ℕ} {m n : ℕ} {before between after : Sheet} → Adds t m before between → Adds u n between after → Adds (t ++ u) (m + n) before after
-then {after = after} p q =
+-- a text on a sheet, and another right after it: the sheet is written as far as the first left it, in the same buffer
+pub then_at : {t u : List ℕ} {m n : ℕ} {before between from after : Sheet} → Adds t m before between → from.end ≡ between.end → from.out ≡ between.out → Adds u n from after →
+    Adds (t ++ u) (m + n) before after
+then_at {after = after} p e b q =
     record {
-      same_buffer = q.same_buffer ∙ p.same_buffer;
-      same_length = q.same_length ∙ p.same_length;
-      puts = also p.puts q.puts (omega (arith, p.same_length, q.same_length, after.within));
-      upper_bound = omega (arith, p.upper_bound, q.upper_bound);
+      same_buffer = q.same_buffer ∙ ap (λ o. o.ghost_name) b ∙ p.same_buffer;
+      same_length = q.same_length ∙ ap (λ o. length o.now) b ∙ p.same_length;
+      puts = also p.puts (rw (e, b) at q.puts) (omega (arith, p.same_length, q.same_length, ap (λ o. length o.now) b, after.within));
+      upper_bound = omega (arith, p.upper_bound, q.upper_bound, e);
     }
+
+-- the same where the sheet is the one that the first left; there is no need to look into it for that
+pub then : {t u : List ℕ} {m n : ℕ} {before between after : Sheet} → Adds t m before between → Adds u n between after → Adds (t ++ u) (m + n) before after
+then p q = then_at p refl refl q
 
 -- nothing is put on a sheet
 pub unchanged : (s : Sheet) → Adds [] 0 s s

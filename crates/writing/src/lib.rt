@@ -23,7 +23,10 @@ use refusals::{Refusal, Verdict};
 fn is_accepted(edition: Edition, text: &[u8]) -> bool
     ensures { result ≡ true → checked text.now ≡ Ok edition }
 {
-    checking::check(text) == Ok(edition)
+    match checking::check(text) {
+        Ok(held) => held == edition,
+        Err(_) => false,
+    }
 }
 
 // Is element e of the text legal? Of a text that a check accepts this is known.

@@ -5,4 +5,4 @@ use mathlib.Core.Path.{refl}
 use Rattle.reporting.proofs.finish.Goals as goal
 
 pub returns : goal.returns
-returns c = finished c.args.run c.of-run.ensures refl c.if-out-lt-CLOSING_MOST.false (search rules) c.take_rest.ensures.next c.take_rest.ensures.said c.put_last.ensures c.has_refused.ensures
+returns c = finished c.args.run c.of-run.ensures refl c.if-out-lt-CLOSING_MOST.false (search rules) c.take_rest.ensures.next c.take_rest.ensures.said refl refl c.put_last.ensures c.has_refused.ensures

@@ -4,4 +4,6 @@ use Rattle.reporting.proofs.TellLaws.{record_tells}
 use Rattle.reporting.proofs.Ledger.take_record.Goals as goal
 
 pub returns : goal.returns
-returns c = record_tells _ _ _ _ c.tell-is_refused.result _ c.requires.telling (omega arith) (omega arith) c.saturating_add-count.ensures (omega arith) c.tell-is_refused.ensures
+returns c =
+    let telling = c.requires.telling in
+    record_tells _ _ _ _ c.tell-is_refused.result _ telling (cc) (omega arith) (omega arith) c.saturating_add-count.ensures (omega arith) c.tell-is_refused.ensures

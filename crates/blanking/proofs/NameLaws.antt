@@ -20,9 +20,13 @@ use Rattle.blanking.specs.LostBytes.{Spot, in_element, some, named}
 use Rattle.blanking.proofs.Steps.{within, off}
 
 -- a word grows by a bit that is set or not
-pub word_on : (f : ℕ → Bool) (k n : ℕ) (w : ℕ) → w ≡ bits f k n → (x : Bool) → x ≡ f (k + n) → (v : ℕ) → v ≡ cond x ((1 * 2 ^ n) % 2 ^ 8) 0 → n < 8 → bit_or w v ≡ bits f k (n + 1)
-word_on f k n w g true h v q l = rw (g, q, one_shl n 8 l, add-one n) (word_set f k n (sym h))
-word_on f k n w g false h v q l = rw (g, q, or_zero_r, add-one n) (word_not_set f k n (sym h))
+pub word_on : (f : ℕ → Bool) (k n : ℕ) (w : ℕ) → w ≡ bits f k n → (x : Bool) → x ≡ f (k + n) → (mask : ℕ) → mask ≡ 2 ^ n → (v : ℕ) → v ≡ cond x mask 0 → bit_or w v ≡ bits f k (n + 1)
+word_on f k n w g true h mask m v q = rw (g, q, m, add-one n) (word_set f k n (sym h))
+word_on f k n w g false h mask m v q = rw (g, q, or_zero_r, add-one n) (word_not_set f k n (sym h))
+
+-- the mask of one of a byte's bits, which is 1 moved up
+pub byte_on : (f : ℕ → Bool) (k n : ℕ) (w : ℕ) → w ≡ bits f k n → (x : Bool) → x ≡ f (k + n) → (v : ℕ) → v ≡ cond x ((1 * 2 ^ n) % 2 ^ 8) 0 → n < 8 → bit_or w v ≡ bits f k (n + 1)
+byte_on f k n w g x h v q l = word_on f k n w g x h _ (one_shl n 8 l) v q
 
 module _ (xs : List ℕ) (lo hi : ℕ) where
   -- the test of the first byte of an element

@@ -83,8 +83,12 @@ cover ed xs s o k h =
     let t = s ed in
     onward 112 112 (onward 96 96 (onward 80 80 (onward 64 64 (onward 16 16 o.0 t.0 (omega arith)) o.1.0 (omega arith)) t.1 (omega arith)) o.1.1.0 (omega arith)) o.1.1.1 (omega arith) k (omega arith) h
 
+-- an edition is the first, the third or the fourth
+pub each : (P : Edition → Type 0) → P One → P Three → P Four → (ed : Edition) → P ed
+each P p q r One = p
+each P p q r Three = q
+each P p q r Four = r
+
 -- a range in every edition, from what it needs in each of the three
 pub in_all : {xs : List ℕ} {from to : ℕ} {P : Edition → Type 0} → ((ed : Edition) → P ed → Range ed xs from to) → P One → P Three → P Four → (ed : Edition) → Range ed xs from to
-in_all f p q r One = f One p
-in_all f p q r Three = f Three q
-in_all f p q r Four = f Four r
+in_all {P = P} f p q r ed = f ed (each P p q r ed)

@@ -1,9 +1,10 @@
 -- A number and its sign, two numbers that are the same, and a number and its bits. Assumes nothing.
-use mathlib.Core.Path.{◌≡◌, refl, sym, ap}
+use mathlib.Core.Path.{◌≡◌, refl, sym, ap, ◌∙◌}
 use mathlib.Core.Bool.{Bool, true, false, true≢false}
-use Prim.Native.Nat.{ℕ, zero, suc}
-use borrow.Author.Tests.{eq-eqb, eqb-true}
+use Prim.Native.Nat.{ℕ, zero, suc, zero-le}
+use borrow.Author.Tests.{eq-eqb, eqb-true, le-ltb}
 use lib.IntN.{ℤ, pos, negsuc, nat_abs}
+use lib.Signed.{lt_z}
 use mir.Syntax.{w64}
 use mir.Val.{SFits, to_z, of_z}
 use mir.Facts.{to_z-of_z}
@@ -40,6 +41,13 @@ back z = to_z w64 (of_z w64 z)
 module _ (a : ℤ) (f : SFits w64 a) where
   pub itself : back a ≡ a
   itself = to_z-of_z f
+
+  pub below_zero : lt_z (back a) (pos 0) ≡ negative a
+  below_zero = ap (λ (z : ℤ). lt_z z (pos 0)) itself ∙ by a
+    where
+      by : (z : ℤ) → lt_z z (pos 0) ≡ negative z
+      by (pos n) = le-ltb n 0 zero-le
+      by (negsuc n) = refl
 
 pub same_back : (a b : ℤ) → SFits w64 a → SFits w64 b → same_signed (back a) (back b) ≡ same_signed a b
 same_back a b f g = rw (itself a f, itself b g)

@@ -10,8 +10,10 @@ use Rattle.layout.specs.Page.{is_departure, is_sign, is_temperature}
 use Rattle.places.specs.declared.Place.{Place}
 use Rattle.places.specs.Places.{latitude_figure, longitude_figure}
 use Rattle.reading.specs.declared.Kind.{Kind}
+use Rattle.reading.specs.declared.Reading.{Reading}
+use Rattle.reading.specs.declared.Reading.TheVariants.{Missing, Code, Text, Amount, At}
 use Rattle.signs.specs.Signed.{negative}
-use Rattle.spelling.specs.Spelled.{sign_digit, amount_numeral, place_numeral}
+use Rattle.spelling.specs.Spelled.{sign_digit, amount_numeral, place_numeral, numeral_for}
 
 abbrev pub Spellable : Numeral → Type 0
 Spellable m = (0 < m.base) × (m.nought + m.base ≤ 256)
@@ -30,3 +32,11 @@ amount_fits e a k = one_of_three (is_sign e) (is_temperature e) (is_departure e)
 pub place_fits : (ed : Edition) (e : ℕ) (p : Place) → Spellable (place_numeral ed e p)
 unfolding place_numeral
 place_fits ed e p = one_of_three (eqb e 6) (eqb e 7) (eqb e 8) p.digit (latitude_figure p) (longitude_figure ed p)
+
+pub numeral_fits : (ed : Edition) (e : ℕ) (r : Reading) → Spellable (numeral_for ed e r)
+unfolding numeral_for
+numeral_fits ed e Missing = (lit< tt, lit≤ tt)
+numeral_fits ed e (Code n) = (lit< tt, lit≤ tt)
+numeral_fits ed e (Text n) = (lit< tt, lit≤ tt)
+numeral_fits ed e (Amount a k) = amount_fits e a k
+numeral_fits ed e (At p) = place_fits ed e p

@@ -1,10 +1,11 @@
 -- A test at every byte of a text, and the run of bytes at the front that pass it: in the words of std, and byte by byte. Assumes nothing.
-use mathlib.Core.Path.{◌≡◌, refl}
-use mathlib.Core.Bool.{Bool, true, false, cond}
+use mathlib.Core.Path.{◌≡◌, refl, ◌∙◌}
+use mathlib.Core.Bool.{Bool, true, false, ◌&&◌, cond}
 use mathlib.Core.List.{List, [], ◌∷◌}
 use Prim.Native.Nat.{ℕ, zero, suc, ◌+◌, ◌<◌, ◌≤◌, zero-le, suc-le-suc}
 use native.Mathlib.Nat.{le_of_suc-le-suc, not-suc-le-zero}
 use native.Mathlib.Numerals.{add-one, one-add}
+use lib.Dec.{eqb, eqb-suc-suc, eqb-zero-suc}
 use lib.ListN.{length, get_or, drop, drop_of_length-le}
 use lib.Seq.{drop-cons}
 use Rattle.std.specs.List.{list_all, prefix_len}
@@ -47,3 +48,13 @@ pub run_fits : (p : ℕ → Bool) (xs : List ℕ) → run p xs ≤ length xs
 unfolding run
 run_fits p [] = zero-le
 run_fits p (x ∷ xs) = run_step (p x) (run_fits p xs)
+
+-- a test passes at every byte exactly where its run is the whole text
+whole_step : (t b : Bool) (m n : ℕ) → eqb m n ≡ b → eqb (cond t (suc m) 0) (suc n) ≡ (t && b)
+whole_step true b m n e = eqb-suc-suc m n ∙ e
+whole_step false b m n e = eqb-zero-suc n
+
+pub whole_run : (p : ℕ → Bool) (xs : List ℕ) → eqb (run p xs) (length xs) ≡ every p xs
+unfolding run every
+whole_run p [] = refl
+whole_run p (x ∷ xs) = whole_step (p x) (every p xs) (run p xs) (length xs) (whole_run p xs)

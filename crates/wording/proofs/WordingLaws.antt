@@ -1,6 +1,6 @@
 -- How long a number is in decimal digits, and the loop that counts them. Assumes nothing.
 use mathlib.Core.Path.{◌≡◌, refl, sym, ap, ◌∙◌}
-use mathlib.Core.Bool.{Bool, true, false, true≢false}
+use mathlib.Core.Bool.{Bool, true, false}
 use mathlib.Core.List.{List, [], ◌∷◌, ◌++◌}
 use Prim.Native.Nat.{ℕ, zero, suc, ◌+◌, ◌-◌, ◌/◌, ◌%◌, ◌^◌, ◌<◌, ◌≤◌}
 use native.Mathlib.Nat.{zero-add, div-lt_iff_lt-mul, mod-eq_of_lt, pow-suc}
@@ -11,7 +11,9 @@ use lib.Dec.{ltb, lit<}
 use lib.ListN.{length, length-append}
 use Rattle.numerals.specs.Numerals.{spelled}
 use Rattle.text.specs.Bytes.{bytes_of}
-use lib.IntN.{ℤ, pos, negsuc, nat_abs}
+use Rattle.signs.specs.Signed.{negative}
+use Rattle.signs.proofs.Signs.{below_zero}
+use lib.IntN.{ℤ, pos, nat_abs}
 use lib.Signed.{lt_z}
 use mir.Syntax.{w64}
 use mir.Val.{SFits, to_z, of_z}
@@ -137,19 +139,19 @@ unfolding decimal decimal_from
 decimal_of_most = refl
 
 -- a number below zero has its sign before its digits, and another has none
-with_sign_as : (z : ℤ) {size : ℕ} → size ≡ nat_abs z → lt_z z (pos 0) ≡ true → numbered (bytes_of "-") size ≡ signed_decimal z
-unfolding signed_decimal
-with_sign_as (pos k) e b = absurd (omega (arith, ltb-true k 0 b))
-with_sign_as (negsuc k) e b = rw e refl
+module _ (n : ℤ) {size : ℕ} (e : size ≡ nat_abs n) where
+  pub with_sign : negative n ≡ true → numbered (bytes_of "-") size ≡ signed_decimal n
+  unfolding signed_decimal
+  with_sign b = rw (e, b)
 
-no_sign_as : (z : ℤ) {size : ℕ} → size ≡ nat_abs z → lt_z z (pos 0) ≡ false → decimal size ≡ signed_decimal z
-unfolding signed_decimal
-no_sign_as (pos k) e b = rw e refl
-no_sign_as (negsuc k) e b = absurd (true≢false b)
+  pub no_sign : negative n ≡ false → decimal size ≡ signed_decimal n
+  unfolding signed_decimal
+  no_sign b = rw (e, b)
 
+-- the same of a number as the machine holds and tests it
 module _ (n : ℤ) (fits : SFits w64 n) {size : ℕ} (e : size ≡ nat_abs (to_z w64 (of_z w64 n))) where
-  pub with_sign : lt_z (to_z w64 (of_z w64 n)) (pos 0) ≡ true → numbered (bytes_of "-") size ≡ signed_decimal n
-  with_sign b = with_sign_as n (rw (to_z-of_z fits) at e) (rw (to_z-of_z fits) at b)
+  pub with_sign_held : lt_z (to_z w64 (of_z w64 n)) (pos 0) ≡ true → numbered (bytes_of "-") size ≡ signed_decimal n
+  with_sign_held b = with_sign n (rw (to_z-of_z fits) at e) (sym (below_zero n fits) ∙ b)
 
-  pub no_sign : lt_z (to_z w64 (of_z w64 n)) (pos 0) ≡ false → decimal size ≡ signed_decimal n
-  no_sign b = no_sign_as n (rw (to_z-of_z fits) at e) (rw (to_z-of_z fits) at b)
+  pub no_sign_held : lt_z (to_z w64 (of_z w64 n)) (pos 0) ≡ false → decimal size ≡ signed_decimal n
+  no_sign_held b = no_sign n (rw (to_z-of_z fits) at e) (sym (below_zero n fits) ∙ b)

@@ -6,7 +6,7 @@ use Rattle.text.specs.Bytes.{between}
 use Rattle.element_sets.specs.ElementSets.{bits}
 use Rattle.layout.specs.Page.{first_byte}
 use Rattle.layout.proofs.Columns.{start_next, start_rises, some_column}
-use Rattle.blanking.proofs.NameLaws.{word_on}
+use Rattle.blanking.proofs.NameLaws.{byte_on}
 use Rattle.blanking.proofs.names.name_eight.Goals as goal
 
 pub loop-k-init : goal.loop-k-init
@@ -21,5 +21,5 @@ first_byte-requires c =
 pub loop-k-preserved : goal.loop-k-preserved
 loop-k-preserved c =
     let args = c.args in
-    word_on (λ j. between args.bytes.0 args.bytes.1 (first_byte j args.line.now)) args.e _ _ c.loop-k.invariant _
+    byte_on (λ j. between args.bytes.0 args.bytes.1 (first_byte j args.line.now)) args.e _ _ c.loop-k.invariant _
     (c.holds.ensures ∙ ap (between args.bytes.0 args.bytes.1) c.first_byte.ensures) _ c.bit-w.ensures (omega arith)
